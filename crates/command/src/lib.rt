@@ -1,0 +1,1 @@
+// Commands as a record holds them, and the log record that answers one.

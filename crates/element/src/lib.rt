@@ -1,0 +1,4 @@
+// Element kinds: what a cell holds.
+pub mod clear;
+pub mod element;
+pub mod words;

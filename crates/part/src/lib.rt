@@ -1,0 +1,2 @@
+// Parts, and sets of parts as masks.
+pub mod set;

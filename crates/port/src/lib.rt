@@ -1,0 +1,1 @@
+// Port sets, and which parts can reach a part through them.

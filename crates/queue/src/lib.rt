@@ -1,0 +1,1 @@
+// Port queues of packed messages.
