@@ -1,3 +1,7 @@
 pub mod Cells
 pub mod Shape
 pub mod Order
+pub mod Kinds
+pub mod Commands
+pub mod Decoding
+pub mod Answers

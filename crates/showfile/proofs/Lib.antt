@@ -1,0 +1,3 @@
+pub mod Cycle
+pub mod Exact
+pub mod Parts
