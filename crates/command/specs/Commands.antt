@@ -1,9 +1,11 @@
 -- What decoded commands and refusals stand for. Assumes nothing.
 use Prim.Native.Nat.{ℕ, _≤_}
-use mathlib.Core.List.{List}
+use mathlib.Core.List.{List, _++_}
+use lib.Chars.{codes}
 use lib.ListN.{length}
 use Rattle.std.specs.declared.result.Result.{Result}
 use Rattle.std.specs.declared.result.Result.the-variants.{Ok, Err}
+use Rattle.std.specs.Written.{decimal}
 use Rattle.command.specs.Cells.{cellList}
 use Rattle.command.specs.Order.{Order, malformed, restore, save, work, instruct, send, receive}
 use Rattle.command.specs.declared.command.Command.{Command}
@@ -20,6 +22,12 @@ abbrev pub detailOf : Malformed → ℕ
 detailOf Length = 0
 detailOf Kind = 3
 detailOf (Shape i) = i
+
+-- a refusal in words
+abbrev pub malformedText : Malformed → List ℕ
+malformedText Length = codes "refusal 1: not 32 bytes"
+malformedText Kind = codes "refusal 7 at byte 3: no such kind"
+malformedText (Shape i) = codes "refusal 8 at byte " ++ (decimal i ++ codes ": the shape is broken")
 
 abbrev pub orderOf : Command → Order
 orderOf Restore = restore

@@ -1,5 +1,7 @@
 ghost use mathlib.Core.Path.{_≡_};
-ghost use Rattle.command.specs.Commands.{numberOf, detailOf};
+ghost use Rattle.std.specs.declared.option.Option.the-variants.{Some};
+ghost use Rattle.command.specs.Commands.{numberOf, detailOf, malformedText};
+use std::fmt;
 
 // Why bytes are no command.
 #[derive(Clone, Copy, PartialEq, Eq, Debug)]
@@ -32,6 +34,19 @@ impl Malformed {
             Malformed::Length => 0,
             Malformed::Kind => 3,
             Malformed::Shape(at) => at,
+        }
+    }
+}
+
+// The refusal in words, with its number and the byte at fault.
+pub impl fmt::Display for Malformed as MalformedDisplay {
+    ghost shown = { λ m. Some (malformedText m) };
+
+    fn fmt<W: fmt::Write>(&self, f: &mut fmt::Formatter<W>) -> fmt::Result {
+        match *self {
+            Malformed::Length => f.write_str("refusal 1: not 32 bytes"),
+            Malformed::Kind => f.write_str("refusal 7 at byte 3: no such kind"),
+            Malformed::Shape(at) => write!(f, "refusal 8 at byte {at}: the shape is broken"),
         }
     }
 }

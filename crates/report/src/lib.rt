@@ -1,0 +1,2 @@
+// What the program prints, one line a record.
+pub mod listing;
