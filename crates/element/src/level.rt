@@ -3,6 +3,7 @@ ghost use Prim.Native.Nat.{_<_};
 
 pub mod make;
 pub mod packing;
+pub mod show;
 
 #[derive(Clone, Copy, PartialEq, Eq, Debug)]
 pub struct Level {

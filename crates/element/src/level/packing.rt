@@ -12,7 +12,7 @@ pub impl Element for Level as LevelElement {
     ghost unpacked = { wordsLevel };
 
     fn null() -> Level {
-        Level::from_low_bits(0)
+        Level::new(0)
     }
 
     fn pack(self) -> Words {
