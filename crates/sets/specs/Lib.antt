@@ -1,0 +1,4 @@
+pub mod Takes
+pub mod LevelMeaning
+pub mod HeadMeaning
+pub mod Few

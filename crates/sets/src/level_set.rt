@@ -1,0 +1,64 @@
+// The instruction set over levels.
+ghost use mathlib.Core.Path.{_≡_};
+ghost use Rattle.sets.specs.LevelMeaning.{levelValue, levelMeaning};
+ghost use Rattle.sets.specs.Few.{level-few};
+use crate::dims::bend;
+use crate::dims::fade;
+use crate::dims::raise;
+use crate::dims::scale;
+use crate::dims::top;
+use crate::take::one;
+use crate::take::pass;
+use crate::take::three;
+use crate::take::two;
+use element::level::Level;
+use element::level::packing::LevelElement;
+use instruction::fault::SetFault;
+use instruction::set::InstructionSet;
+
+// The set of codes over levels; it has no state.
+#[derive(Clone, Copy, PartialEq, Eq, Debug)]
+pub struct LevelSet;
+
+// The one level that a code from 2 on gives.
+fn value(code: u8, args: &[Level]) -> Result<Level, SetFault>
+    ensures { λ r. ⌜ r ≡ levelValue code (now (args .entry)) ⌝ }
+{
+    match code {
+        2 => top(args),
+        3 => {
+            let (a, b) = two(args)?;
+            Ok(scale(a, b))
+        }
+        4 => {
+            let v = one(args)?;
+            Ok(bend(v))
+        }
+        5 => {
+            let (a, b, t) = three(args)?;
+            Ok(fade(a, b, t))
+        }
+        6 => {
+            let v = one(args)?;
+            Ok(raise(v))
+        }
+        _ => Err(SetFault::UnknownCode),
+    }
+}
+
+pub impl InstructionSet<Level> for LevelSet as LevelInstructions {
+    ghost meaning = { λ _. levelMeaning };
+
+    ghost few = { λ s code xs vs e. level-few code xs vs e };
+
+    fn call(&mut self, code: u8, args: &[Level], places: &mut [Level]) -> Result<usize, SetFault> {
+        if places.len() < 4 {
+            return Err(SetFault::FewPlaces);
+        }
+        if code == 1 {
+            return pass(args, places);
+        }
+        places[0] = value(code, args)?;
+        Ok(1)
+    }
+}
