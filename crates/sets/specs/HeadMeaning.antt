@@ -16,19 +16,19 @@ abbrev pub tinted : Head → Head → Head
 tinted a b = head (a .pan) (a .tilt) (b .colour)
 
 -- a moved on by the pan and tilt of b
-abbrev pub moved : Head → Head → Head
-moved a b = head ((a .pan + b .pan) % 65536) ((a .tilt + b .tilt) % 65536) (a .colour)
+abbrev pub shifted : Head → Head → Head
+shifted a b = head ((a .pan + b .pan) % 65536) ((a .tilt + b .tilt) % 65536) (a .colour)
 
 -- half a turn about, and tilted the other way
-abbrev pub turned : Head → Head
-turned a = head ((a .pan + 32768) % 65536) (65535 - a .tilt) (a .colour)
+abbrev pub flipped : Head → Head
+flipped a = head ((a .pan + 32768) % 65536) (65535 - a .tilt) (a .colour)
 
 -- codes 2 to 4 give one head
 abbrev pub headValue : ℕ → List Head → Result Head SetFault
 headValue code xs =
     cond (eqb code 2) (onto (λ p. tinted (p .0) (p .1)) (twoOf xs))
-    (cond (eqb code 3) (onto (λ p. moved (p .0) (p .1)) (twoOf xs))
-    (cond (eqb code 4) (onto turned (oneOf xs))
+    (cond (eqb code 3) (onto (λ p. shifted (p .0) (p .1)) (twoOf xs))
+    (cond (eqb code 4) (onto flipped (oneOf xs))
     (Err UnknownCode)))
 
 -- code 1 gives its elements back

@@ -1,10 +1,11 @@
 // The instruction set over heads.
 ghost use mathlib.Core.Path.{_≡_};
 ghost use Rattle.sets.specs.HeadMeaning.{headValue, headMeaning};
+ghost use Rattle.sets.specs.HeadLaws.{HeadLaws};
 ghost use Rattle.sets.specs.Few.{head-few};
-use crate::aims::flip;
-use crate::aims::shift;
-use crate::aims::tint;
+use crate::head_codes::flip;
+use crate::head_codes::shift;
+use crate::head_codes::tint;
 use crate::take::one;
 use crate::take::pass;
 use crate::take::two;
@@ -16,6 +17,15 @@ use instruction::set::InstructionSet;
 // The set of codes over heads; it has no state.
 #[derive(Clone, Copy, PartialEq, Eq, Debug)]
 pub struct HeadSet;
+
+impl HeadSet {
+    // The head set, whose meaning keeps these laws.
+    pub fn new() -> HeadSet
+        ensures { λ _. ⌜ HeadLaws ⌝ }
+    {
+        HeadSet
+    }
+}
 
 // The one head that a code from 2 on gives.
 fn value(code: u8, args: &[Head]) -> Result<Head, SetFault>

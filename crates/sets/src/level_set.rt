@@ -1,12 +1,13 @@
 // The instruction set over levels.
 ghost use mathlib.Core.Path.{_≡_};
 ghost use Rattle.sets.specs.LevelMeaning.{levelValue, levelMeaning};
+ghost use Rattle.sets.specs.LevelLaws.{LevelLaws};
 ghost use Rattle.sets.specs.Few.{level-few};
-use crate::dims::bend;
-use crate::dims::fade;
-use crate::dims::raise;
-use crate::dims::scale;
-use crate::dims::top;
+use crate::level_codes::curve;
+use crate::level_codes::fade;
+use crate::level_codes::raise;
+use crate::level_codes::scale;
+use crate::level_codes::top;
 use crate::take::one;
 use crate::take::pass;
 use crate::take::three;
@@ -20,6 +21,15 @@ use instruction::set::InstructionSet;
 #[derive(Clone, Copy, PartialEq, Eq, Debug)]
 pub struct LevelSet;
 
+impl LevelSet {
+    // The level set, whose meaning keeps these laws.
+    pub fn new() -> LevelSet
+        ensures { λ _. ⌜ LevelLaws ⌝ }
+    {
+        LevelSet
+    }
+}
+
 // The one level that a code from 2 on gives.
 fn value(code: u8, args: &[Level]) -> Result<Level, SetFault>
     ensures { λ r. ⌜ r ≡ levelValue code (now (args .entry)) ⌝ }
@@ -32,7 +42,7 @@ fn value(code: u8, args: &[Level]) -> Result<Level, SetFault>
         }
         4 => {
             let v = one(args)?;
-            Ok(bend(v))
+            Ok(curve(v))
         }
         5 => {
             let (a, b, t) = three(args)?;

@@ -1,12 +1,12 @@
 // What the codes of the level set compute.
 ghost use mathlib.Core.Path.{_≡_};
 ghost use Rattle.sets.specs.LevelMeaning.{higher, scaled, curved, faded, raised, topOf};
-use crate::curve::curve;
+use crate::curve::entry;
 use element::level::Level;
 use instruction::fault::SetFault;
 
 // The higher of two levels.
-fn larger(a: Level, b: Level) -> Level
+fn higher_of(a: Level, b: Level) -> Level
     ensures { λ r. ⌜ r ≡ higher a b ⌝ }
 {
     if a.value < b.value { b } else { a }
@@ -22,7 +22,7 @@ pub(crate) fn top(args: &[Level]) -> Result<Level, SetFault>
     }
     let mut best = args[0];
     for i in 1..n {
-        best = larger(best, args[i]);
+        best = higher_of(best, args[i]);
     }
     Ok(best)
 }
@@ -35,10 +35,10 @@ pub(crate) fn scale(a: Level, b: Level) -> Level
 }
 
 // A level on the dimmer curve, by the table.
-pub(crate) fn bend(v: Level) -> Level
+pub(crate) fn curve(v: Level) -> Level
     ensures { λ r. ⌜ r ≡ curved v ⌝ }
 {
-    Level::new(curve(v.value))
+    Level::new(entry(v.value))
 }
 
 // Part t of the way from a to b.

@@ -11,15 +11,15 @@ use Rattle.std.specs.declared.result.Result.the-variants.{Ok, Err}
 use Rattle.std.proofs.shelf.Lists.{at-drop-more, at-drop-all}
 use Rattle.element.specs.declared.level.Level.{Level}
 use Rattle.sets.specs.LevelMeaning.{highest, higher, topOf}
-use Rattle.sets.proofs.dims.top.Needs as need
+use Rattle.sets.proofs.level_codes.top.Needs as need
 
 step : (xs : List Level) (i : ℕ) (best x next : Level) → i < length xs → x ≡ getD xs i x → next ≡ higher best x
-  → highest next (drop (i + 1) xs) ≡ highest best (drop i xs)
+    → highest next (drop (i + 1) xs) ≡ highest best (drop i xs)
 step xs i best x next h e n = ap (λ y. highest y (drop (i + 1) xs)) (n ∙ ap (higher best) e) ∙ sym (at-drop-more (highest best) xs i x h)
 
 pub loop-i-again : need.loop-i-again
 loop-i-again c =
-    step (c .args .args .now) (c .loop-i .i) (c .loop-i .best) (c .index-args-i .result) _ (search needs) (c .index-args-i .is) (c .larger-best .ensures)
+    step (c .args .args .now) (c .loop-i .i) (c .loop-i .best) (c .index-args-i .result) _ (search needs) (c .index-args-i .is) (c .higher-of-best .ensures)
     ∙ c .loop-i .inv
 
 first : (xs : List Level) (a : Level) → a ≡ getD xs 0 a → ¬ (length xs ≡ 0) → length xs ≤ 8 → Ok (highest a (drop 1 xs)) ≡ topOf xs
