@@ -11,6 +11,7 @@ use lib.ListN.{length, take, drop}
 use Rattle.std.proofs.shelf.Lists.{take-all, drop-all, take-take, take-map, take-at, length-map, length-take-le}
 use Rattle.std.proofs.shelf.Tests.{cases-eq, cases-lt, lt-ltb, eq-eqb, ne-eqb}
 use Rattle.queue.specs.Queue.{Queue, empty, appended, first, taken}
+use Rattle.queue.specs.declared.queues.Taken.{Taken}
 use Rattle.queue.specs.Runs.{Holds, lastEight}
 use Rattle.queue.specs.Ports.{sent, received, Sent, Received, laid, Given}
 use Rattle.queue.proofs.Runs.{holds-more, holds-taken}
@@ -43,20 +44,21 @@ laid-whole vs ps n e h =
 pub front-map : {W X : Type 0} (u : W → X) (ws : List W) (n k : ℕ) → n ≤ k → map u (take n ws) ≡ take n (map u (take k ws))
 front-map u ws n k h = sym (take-map u n (take k ws) ∙ ap (map u) (take-take n k ws h))
 
-pub given : {E : Type 0} (q : Queue E) (before after : List E) (n lost : ℕ) → after ≡ laid (first (q .messages)) before →
-    n ≡ min (length (first (q .messages))) (length before) → lost ≡ q .missed → length (first (q .messages)) ≤ 4 → Given q before after n lost
-given q before after n lost p c m f = record {
+pub given : {E : Type 0} (q : Queue E) (before after : List E) (r : Taken) → after ≡ laid (first (q .messages)) before →
+    r .count ≡ min (length (first (q .messages))) (length before) → r .missed ≡ q .missed → length (first (q .messages)) ≤ 4 → Given q before after r
+given q before after r p c m f = record {
   places = p;
   count = c;
   missed = m;
   few = f;
-  whole = λ h. ap (take n) p ∙ laid-whole (first (q .messages)) before n c (omega arith);
+  whole = λ h. ap (take (r .count)) p ∙ laid-whole (first (q .messages)) before (r .count) c (omega arith);
 }
 
 -- no message: the places stay
-pub given-none : {E : Type 0} (q : Queue E) (before : List E) → q ≡ empty → Given q before before 0 0
-given-none q before e = subst (λ (x : Queue _). Given x before before 0 0) (sym e)
-    (given empty before before 0 0 (sym (ap (λ (xs : List _). xs ++ before) (take-all (length before) [] (omega arith)))) (omega arith) refl (omega arith))
+pub given-none : {E : Type 0} (q : Queue E) (before : List E) → q ≡ empty → Given q before before (record { count = 0; missed = 0 })
+given-none q before e = subst (λ (x : Queue _). Given x before before (record { count = 0; missed = 0 })) (sym e)
+    (given empty before before (record { count = 0; missed = 0 })
+    (sym (ap (λ (xs : List _). xs ++ before) (take-all (length before) [] (omega arith)))) (omega arith) refl (omega arith))
 
 pub sent-all : {E : Type 0} (o o′ : ℕ → Queue E) (x : ℕ) (vs : List E) → o′ ≡ sent x vs o → Sent o o′ x vs
 sent-all o o′ x vs e = record {

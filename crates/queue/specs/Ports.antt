@@ -6,6 +6,7 @@ use mathlib.Core.List.{List, [], _∷_, _++_}
 use lib.Dec.{eqb, ltb}
 use lib.ListN.{length, take, drop}
 use Rattle.queue.specs.Queue.{Queue, appended, first, taken}
+use Rattle.queue.specs.declared.queues.Taken.{Taken}
 use Rattle.queue.specs.Runs.{Holds, lastEight}
 
 -- a message of the first four values is appended at port x, if there is such a port; other queues stay
@@ -29,10 +30,10 @@ abbrev pub laid : {E : Type 0} → List E → List E → List E
 laid vs ps = take (length ps) vs ++ drop (length vs) ps
 
 -- what a receive gives from the queue q: the first message into the places, how many were written, and missed
-pub record Given {E : Type 0} (q : Queue E) (before after : List E) (n lost : ℕ) : Type 0 where
+pub record Given {E : Type 0} (q : Queue E) (before after : List E) (r : Taken) : Type 0 where
   pub places : after ≡ laid (first (q .messages)) before
-  pub count : n ≡ min (length (first (q .messages))) (length before)
-  pub missed : lost ≡ q .missed
+  pub count : r .count ≡ min (length (first (q .messages))) (length before)
+  pub missed : r .missed ≡ q .missed
   -- four places suffice
   pub few : length (first (q .messages)) ≤ 4
-  pub whole : 4 ≤ length before → take n after ≡ first (q .messages)
+  pub whole : 4 ≤ length before → take (r .count) after ≡ first (q .messages)

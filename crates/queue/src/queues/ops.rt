@@ -41,7 +41,7 @@ impl Queues {
     // places. An empty queue, and a port from PORTS on, has no elements.
     pub fn receive<E: Element>(&mut self, port: u8, places: &mut [E]) -> Taken
         ensures queues { λ _. ⌜ Received (queueAt unpacked (now (self .entry))) (queueAt unpacked (now (self .exit))) port ⌝ }
-        ensures given { λ r. ⌜ Given (queueAt unpacked (now (self .entry)) port) (now (places .entry)) (now (places .exit)) (r .count) (r .missed) ⌝ }
+        ensures given { λ r. ⌜ Given (queueAt unpacked (now (self .entry)) port) (now (places .entry)) (now (places .exit)) r ⌝ }
     {
         if port >= PORTS {
             return Taken {

@@ -38,7 +38,7 @@ returns g c =
     record {
       queues = received-all o (queueAt u (record { queues = set qs i (c .take-first .last .self) })) i
           (fun-ext (λ y. changed u (c .args .self .now) i (c .take-first .last .self) taken taken (c .if-port-ge-PORTS .left) h (c .take-first .ensures .after ∙ ap taken at-i) (unpacked-taken u) y));
-      given = given (o i) (c .args .places .now) (c .unpack-into-count .last .places) (c .unpack-into-count .result) (c .take-first .result .missed)
+      given = given (o i) (c .args .places .now) (c .unpack-into-count .last .places) (record { count = c .unpack-into-count .result; missed = c .take-first .result .missed })
           (c .unpack-into-count .ensures .places ∙ ap (λ (xs : List _). laid xs (c .args .places .now)) e)
           (c .unpack-into-count .ensures .count ∙ ap (λ (k : ℕ). min k (length (c .args .places .now))) n)
           (c .take-first .ensures .missed ∙ ap (λ (q : Queue Words). q .missed) at-i)
