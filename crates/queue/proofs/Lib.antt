@@ -1,0 +1,4 @@
+pub mod Front
+pub mod Runs
+pub mod Unpacked
+pub mod Laying
