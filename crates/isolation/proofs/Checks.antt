@@ -30,7 +30,7 @@ Every f (n ∷ ns) = (f n ≡ true) × Every f ns
 pub each-pass : (f : ℕ → Bool) (i : ℕ) (ns : List ℕ) (v : Verdict) → each f i ns v ≡ pass → Every f ns × (v ≡ pass)
 each-pass f i [] v e = (tt, e)
 each-pass f i (n ∷ ns) v e =
-    let h = when-pass (f n) 12 i (each f (suc i) ns v) e in
+    let h = when-pass (f n) _ _ _ e in
     let t = each-pass f (suc i) ns v (h .1) in
     ((h .0, t .0), t .1)
 
@@ -43,13 +43,13 @@ every-within k p (n ∷ ns) h =
 module _ {E : Type 0} (k : Making E) (busy mine : Bool) (p : ℕ) where
   pub passed-part : (o : Order) → check k busy mine p o ≡ pass → p < k .parts
   passed-part (malformed n d) e = absurd (not-fail n d e)
-  passed-part restore e = ltb-true p (k .parts) (when-pass (ltb p (k .parts)) 9 2 (when (not busy) 10 0 pass) e .0)
-  passed-part save e = ltb-true p (k .parts) (when-pass (ltb p (k .parts)) 9 2 (when mine 10 0 pass) e .0)
-  passed-part (work w) e = ltb-true p (k .parts) (when-pass (ltb p (k .parts)) 9 2 (when mine 10 0 (may k p w)) e .0)
+  passed-part restore e = ltb-true p (k .parts) (when-pass (ltb p (k .parts)) _ _ _ e .0)
+  passed-part save e = ltb-true p (k .parts) (when-pass (ltb p (k .parts)) _ _ _ e .0)
+  passed-part (work w) e = ltb-true p (k .parts) (when-pass (ltb p (k .parts)) _ _ _ e .0)
 
   -- work that passed has the rights that it needs
   pub passed-work : (w : Work) → check k busy mine p (work w) ≡ pass → may k p w ≡ pass
-  passed-work w e = when-pass mine 10 0 (may k p w) (when-pass (ltb p (k .parts)) 9 2 (when mine 10 0 (may k p w)) e .1) .1
+  passed-work w e = when-pass mine _ _ _ (when-pass (ltb p (k .parts)) _ _ _ e .1) .1
 
   pub passed-instruct : (code : ℕ) (xs rs : List ℕ) → check k busy mine p (work (instruct code xs rs)) ≡ pass → Within (k .size) rs
   passed-instruct code xs rs e =
@@ -58,10 +58,10 @@ module _ {E : Type 0} (k : Making E) (busy mine : Bool) (p : ℕ) where
 
   pub passed-send : (x : ℕ) (xs : List ℕ) → check k busy mine p (work (send x xs)) ≡ pass → x < 16
   passed-send x xs e =
-      let a = when-pass (sender k p x) 11 5 (each (readable k p) 0 xs pass) (passed-work (send x xs) e) in
+      let a = when-pass (sender k p x) _ _ _ (passed-work (send x xs) e) in
       ltb-true x 16 (and-parts (ltb x 16) (bit p (k .sends x)) (a .0) .0)
 
   pub passed-receive : (x : ℕ) (rs : List ℕ) → check k busy mine p (work (receive x rs)) ≡ pass → (x < 16) × Within (k .size) rs
   passed-receive x rs e =
-      let a = when-pass (receiver k p x) 11 5 (each (writable k p) 8 rs pass) (passed-work (receive x rs) e) in
+      let a = when-pass (receiver k p x) _ _ _ (passed-work (receive x rs) e) in
       (ltb-true x 16 (and-parts (ltb x 16) (bit p (k .receives x)) (a .0) .0), every-within k p rs (each-pass (writable k p) 8 rs pass (a .1) .0))

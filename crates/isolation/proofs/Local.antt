@@ -59,7 +59,7 @@ same-effect k p Y hears (instruct c ns rs) h m m′ o o′ a b =
     let e : map m ns ≡ map m′ ns = map-alike (readable k p) m m′ ns (each-pass (readable k p) 0 ns _ h .0) (λ n r. a n (or-left (readable k p n) (writable k p n) r)) in
     rw e (settle-alike k p Y (k .null) (k .set c (map m′ ns)) rs m m′ o o′ a b)
 same-effect k p Y hears (send x ns) h m m′ o o′ a b =
-    let g = when-pass (sender k p x) 11 5 _ h in
+    let g = when-pass (sender k p x) _ _ _ h in
     let e : map m ns ≡ map m′ ns = map-alike (readable k p) m m′ ns (each-pass (readable k p) 0 ns _ (g .1) .0) (λ n r. a n (or-left (readable k p n) (writable k p n) r)) in
     record {
       answer = ap (done 0) e;
@@ -67,7 +67,7 @@ same-effect k p Y hears (send x ns) h m m′ o o′ a b =
       queues = λ y t. cond-two (eqb y x) (ap₂ appended e (b y t)) (b y t);
     }
 same-effect k p Y hears (receive x rs) h m m′ o o′ a b =
-    let g = when-pass (receiver k p x) 11 5 _ h in
+    let g = when-pass (receiver k p x) _ _ _ h in
     let e : o x ≡ o′ x = b x (hears x (g .0)) in
     record {
       answer = ap (λ (q : Queue _). done (q .missed) (first (q .messages))) e;
@@ -88,7 +88,7 @@ frame k p (instruct c ns rs) h m o n t =
     (each-pass (writable k p) 8 rs pass (each-pass (readable k p) 0 ns _ h .1) .0) t
 frame k p (send x ns) h m o n t = refl
 frame k p (receive x rs) h m o n t =
-    let g = when-pass (receiver k p x) 11 5 _ h in
+    let g = when-pass (receiver k p x) _ _ _ h in
     put-frame (writable k p) (k .null) rs (first (o x .messages)) m n (each-pass (writable k p) 8 rs pass (g .1) .0) t
 
 settle-queues : {E : Type 0} (z : E) (x : Outcome E) (rs : List ℕ) (m : ℕ → E) (o : ℕ → Queue E) → settle z x rs m o .queues ≡ o
@@ -100,12 +100,12 @@ pub frame-queues : {E : Type 0} (k : Making E) (p : ℕ) (w : Work) → may k p 
     (y < 16 → (bit p (k .sends y) || bit p (k .receives y)) ≡ true → ⊥) → effect k w m o .queues y ≡ o y
 frame-queues k p (instruct c ns rs) h m o y t = ap (λ (f : ℕ → Queue _). f y) (settle-queues (k .null) (k .set c (map m ns)) rs m o)
 frame-queues k p (send x ns) h m o y t =
-    let g = when-pass (sender k p x) 11 5 _ h in
+    let g = when-pass (sender k p x) _ _ _ h in
     let r = and-parts (ltb x 16) (bit p (k .sends x)) (g .0) in
     change-there o (appended (map m ns)) x y
     (λ e. subst (λ (z : ℕ). (z < 16 → (bit p (k .sends z) || bit p (k .receives z)) ≡ true → ⊥)) e t (ltb-true x 16 (r .0)) (or-left (bit p (k .sends x)) (bit p (k .receives x)) (r .1)))
 frame-queues k p (receive x rs) h m o y t =
-    let g = when-pass (receiver k p x) 11 5 _ h in
+    let g = when-pass (receiver k p x) _ _ _ h in
     let r = and-parts (ltb x 16) (bit p (k .receives x)) (g .0) in
     change-there o taken x y
     (λ e. subst (λ (z : ℕ). (z < 16 → (bit p (k .sends z) || bit p (k .receives z)) ≡ true → ⊥)) e t (ltb-true x 16 (r .0)) (or-right (bit p (k .sends x)) (bit p (k .receives x)) (r .1)))

@@ -16,7 +16,7 @@ use Rattle.isolation.specs.Effect.{Effect, effect}
 use Rattle.isolation.specs.Boxes.{Boxes, boxAct, boxStep}
 use Rattle.isolation.specs.OneStep.{Heard, Alike, GrantedAlike, OneStep}
 use Rattle.isolation.proofs.Tables.{cond-two, replace-there}
-use Rattle.isolation.proofs.Checks.{when-pass, passed-part, passed-work}
+use Rattle.isolation.proofs.Checks.{passed-part, passed-work}
 use Rattle.isolation.proofs.Local.{SameEffect, same-effect, frame-queues}
 use Rattle.isolation.proofs.Orders.{Suits, suits-order}
 

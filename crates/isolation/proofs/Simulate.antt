@@ -71,8 +71,8 @@ like-act : {E : Type 0} (k : Making E) → Exclusive k → (v : Verdict) (p : �
 like-act k so (fail n d) p w s r e l = record { answer = refl; after = l }
 like-act k so pass p (malformed n d) s r e l = record { answer = refl; after = l }
 like-act k so pass p restore s r e l =
-    let a = when-pass (ltb p (k .parts)) 9 2 _ e in
-    let b = when-pass (not (isOpen (s .turn))) 10 0 _ (a .1) in
+    let a = when-pass (ltb p (k .parts)) _ _ _ e in
+    let b = when-pass (not (isOpen (s .turn))) _ _ _ (a .1) in
     let f : (q : ℕ) → heldBy (s .turn) q ≡ false = not-open (s .turn) (not-true (isOpen (s .turn)) (b .0)) in
     record {
       answer = refl;
@@ -87,8 +87,8 @@ like-act k so pass p restore s r e l =
       };
     }
 like-act k so pass p save s r e l =
-    let a = when-pass (ltb p (k .parts)) 9 2 _ e in
-    let b = when-pass (heldBy (s .turn) p) 10 0 _ (a .1) in
+    let a = when-pass (ltb p (k .parts)) _ _ _ e in
+    let b = when-pass (heldBy (s .turn) p) _ _ _ (a .1) in
     let f : (q : ℕ) → heldBy (s .turn) q ≡ eqb q p = λ q. held-one (s .turn) p q (b .0) in
     let g : (q : ℕ) → replace (r .marks) p false q ≡ false = λ q. ap (cond (eqb q p) false) (l .marks q ∙ f q) ∙ shut (eqb q p) in
     record {
@@ -108,8 +108,8 @@ like-act k so pass p save s r e l =
     shut true = refl
     shut false = refl
 like-act {E} k so pass p (work w) s r e l =
-    let a = when-pass (ltb p (k .parts)) 9 2 _ e in
-    let b = when-pass (heldBy (s .turn) p) 10 0 _ (a .1) in
+    let a = when-pass (ltb p (k .parts)) _ _ _ e in
+    let b = when-pass (heldBy (s .turn) p) _ _ _ (a .1) in
     let own : (m : ℕ → E) (q n : ℕ) → q ≡ p → cond (k .swapped n) (cond (heldBy (s .turn) q) (m n) (s .saveRows q n)) (m n) ≡ m n =
     λ m q n d. ap (λ (h : Bool). cond (k .swapped n) (cond h (m n) (s .saveRows q n)) (m n)) (ap (heldBy (s .turn)) d ∙ b .0) ∙ cond-same (k .swapped n) (m n) in
     let x : SameEffect k p (λ _. Unit {0}) (effect k w (s .cells) (s .queues)) (effect k w (r .cells p) (r .queues)) =
