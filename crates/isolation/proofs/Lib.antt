@@ -8,3 +8,4 @@ pub mod OneStep
 pub mod Purge
 pub mod History
 pub mod Lists
+pub mod Rules

@@ -3,14 +3,13 @@
 -- Assumes nothing.
 use Prim.Native.Nat.{ℕ, _<_}
 use mathlib.Core.Path.{_≡_, refl, ap, ap₂, subst, _∙_}
-use mathlib.Core.Bool.{Bool, true, false, _&&_, _||_}
+use mathlib.Core.Bool.{Bool, true, false, _||_}
 use mathlib.Core.List.{List, [], _∷_, map}
 use lib.Dec.{eqb, ltb}
 use Rattle.std.proofs.shelf.Tests.{ltb-true, and-parts, or-left, or-right, both-ways}
 use Rattle.part.specs.Sets.{bit}
 use Rattle.queue.specs.Queue.{Queue, appended, first, taken}
 use Rattle.command.specs.Order.{Work, instruct, send, receive}
-use Rattle.isolation.specs.Tables.{change}
 use Rattle.isolation.specs.Making.{Making, Outcome, fault, gives}
 use Rattle.isolation.specs.Request.{done}
 use Rattle.isolation.specs.Check.{pass, may, readable, writable, touchable, sender, receiver}

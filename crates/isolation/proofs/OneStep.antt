@@ -1,10 +1,10 @@
 -- One request on two sets of boxes that are alike for a closed set of parts. Assumes nothing.
 use Prim.Native.Nat.{ℕ, _<_}
-use mathlib.Core.Path.{_≡_, refl, sym, ap, ap₂, subst, _∙_}
-use mathlib.Core.Bool.{Bool, true, false, not, _&&_, _||_}
+use mathlib.Core.Path.{_≡_, refl, sym, ap, subst, _∙_}
+use mathlib.Core.Bool.{Bool, true, false, not, _&&_}
 use mathlib.Core.Logic.{inl, inr, _⊎_}
 use lib.Dec.{eqb, ltb}
-use Rattle.std.proofs.shelf.Tests.{eq-eqb, ne-eqb, ltb-true, cases-eq, cases-bool, both-ways, and-parts, and-from, false≢true, true≢false}
+use Rattle.std.proofs.shelf.Tests.{eq-eqb, ne-eqb, cases-eq, cases-bool, both-ways, and-parts, and-from, false≢true, true≢false}
 use Rattle.part.specs.Sets.{bit}
 use Rattle.port.specs.Upstream.{Closed}
 use Rattle.command.specs.Order.{Order, malformed, restore, save, work}

@@ -11,7 +11,7 @@ use Rattle.port.specs.Upstream.{Closed}
 use Rattle.command.specs.Order.{Order, malformed, restore, save, work}
 use Rattle.isolation.specs.Tables.{any}
 use Rattle.isolation.specs.Making.{Making, Exclusive}
-use Rattle.isolation.specs.Request.{Request, whole, part, kind, turnKind, turnCall, workCommand, order, Answer, granted, Entry, entry}
+use Rattle.isolation.specs.Request.{Request, whole, part, kind, turnKind, order, granted, Entry, entry}
 use Rattle.isolation.specs.Check.{Verdict, pass, fail, when, check}
 use Rattle.isolation.specs.Boxes.{Boxes, separate, boxAct, boxStep}
 use Rattle.isolation.specs.History.{logOf, machineLog, boxLog, isLeft, purge, kept}

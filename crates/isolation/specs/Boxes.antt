@@ -1,8 +1,8 @@
 -- The separate boxes: cells of its own for each part, and the ports in common. They are given requests, and never an answer
 -- of the machine. Assumes nothing.
 use Prim.Native.Nat.{ℕ}
-use mathlib.Core.Bool.{Bool, true, false, cond}
 use mathlib.Core.List.{[]}
+use mathlib.Core.Bool.{Bool, true, false, cond}
 use Rattle.queue.specs.Queue.{Queue, empty}
 use Rattle.command.specs.Order.{Order, malformed, restore, save, work}
 use Rattle.isolation.specs.Tables.{replace, any}

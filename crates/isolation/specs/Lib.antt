@@ -8,4 +8,5 @@ pub mod Boxes
 pub mod History
 pub mod OneStep
 pub mod Isolation
+pub mod Rules
 pub mod Lists
