@@ -1,1 +1,2 @@
 pub mod Upstream
+pub mod Widening

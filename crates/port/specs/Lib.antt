@@ -1,1 +1,3 @@
 pub mod Upstream
+pub mod Sets
+pub mod Reach

@@ -1,1 +1,3 @@
 // Port sets, and which parts can reach a part through them.
+pub mod ports;
+pub mod refusal;
