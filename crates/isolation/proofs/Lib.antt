@@ -1,0 +1,11 @@
+pub mod Tables
+pub mod Checks
+pub mod Exclusive
+pub mod Local
+pub mod Orders
+pub mod Simulate
+pub mod OneStep
+pub mod Purge
+pub mod History
+pub mod Lists
+pub mod Rules

@@ -1,0 +1,12 @@
+pub mod Tables
+pub mod Making
+pub mod Request
+pub mod Check
+pub mod Effect
+pub mod Machine
+pub mod Boxes
+pub mod History
+pub mod OneStep
+pub mod Isolation
+pub mod Rules
+pub mod Lists
