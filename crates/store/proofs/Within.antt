@@ -35,3 +35,16 @@ writes-within xs ys n x h e = record { answer = rw (lt-ltb n (length xs) h); sto
 
 pub writes-beyond : {E : Type 0} (xs ys : List E) (n : ℕ) (x : E) → length xs ≤ n → ys ≡ xs → Writes xs n x (Err Beyond) ys
 writes-beyond xs ys n x h e = record { answer = rw (le-ltb n (length xs) h); stored = e ∙ sym (set-past xs n x h) }
+
+-- a cell after a write
+pub element-set-same : {E : Type 0} (xs : List E) (n : ℕ) (x : E) → n < length xs → element (set xs n x) n ≡ Ok x
+element-set-same [] n x h = absurd (omega arith)
+element-set-same (y ∷ xs) zero x h = refl
+element-set-same (y ∷ xs) (suc n) x h = element-set-same xs n x (omega arith)
+
+pub element-set-other : {E : Type 0} (xs : List E) (m n : ℕ) (x : E) → (m ≡ n → ⊥) → element (set xs m x) n ≡ element xs n
+element-set-other [] m n x h = refl
+element-set-other (y ∷ xs) zero zero x h = absurd (h refl)
+element-set-other (y ∷ xs) zero (suc n) x h = refl
+element-set-other (y ∷ xs) (suc m) zero x h = refl
+element-set-other (y ∷ xs) (suc m) (suc n) x h = element-set-other xs m n x (λ e. h (ap suc e))
