@@ -48,3 +48,14 @@ element-set-other (y ∷ xs) zero zero x h = absurd (h refl)
 element-set-other (y ∷ xs) zero (suc n) x h = refl
 element-set-other (y ∷ xs) (suc m) zero x h = refl
 element-set-other (y ∷ xs) (suc m) (suc n) x h = element-set-other xs m n x (λ e. h (ap suc e))
+
+-- what a read answered, against the element or null
+pub element-ok : {E : Type 0} (xs : List E) (n : ℕ) (x z : E) → Ok x ≡ element xs n → x ≡ getD xs n z
+element-ok [] n x z e = let w : _≡_ {A = ℕ} 0 1 = cc in absurd (omega arith)
+element-ok (y ∷ xs) zero x z e = cc
+element-ok (y ∷ xs) (suc n) x z e = element-ok xs n x z e
+
+pub element-null : {E : Type 0} (xs : List E) (n : ℕ) (f : StoreFault) (z : E) → Err f ≡ element xs n → z ≡ getD xs n z
+element-null [] n f z e = refl
+element-null (y ∷ xs) zero f z e = let w : _≡_ {A = ℕ} 0 1 = cc in absurd (omega arith)
+element-null (y ∷ xs) (suc n) f z e = element-null xs n f z e
