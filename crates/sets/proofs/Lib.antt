@@ -1,0 +1,3 @@
+pub mod CountFacts
+pub mod LevelFacts
+pub mod HeadFacts
