@@ -1,0 +1,3 @@
+pub mod Within
+pub mod Pairing
+pub mod Going

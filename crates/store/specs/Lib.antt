@@ -1,0 +1,4 @@
+pub mod Refusal
+pub mod Meaning
+pub mod Packing
+pub mod Sequences

@@ -1,0 +1,4 @@
+// Moving elements between a store and lists: a command's cells, and the rows of swapped cells.
+pub mod cell;
+pub mod row;
+pub mod transfer;
