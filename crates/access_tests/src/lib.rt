@@ -1,5 +1,6 @@
 // Tests of the access sheet, the port sets and the port queues.
-pub mod bit;
+#[cfg(test)]
+mod bit;
 #[cfg(test)]
 mod ports;
 #[cfg(test)]
