@@ -1,15 +1,15 @@
 -- Sets of parts of any width: union, intersection, a single part, and no part.
 -- Assumes nothing.
-use Prim.Native.Nat.{ℕ, zero, suc, _+_, _*_, _/_, _%_, _^_, _≤_, _<_, min, max}
+use Prim.Native.Nat.{ℕ, zero, suc, _*_, _/_, _%_, _^_, _≤_, _<_, min, max}
 use native.Mathlib.Nat.{div-div-eq-div-mul, div-one, pow-suc}
 use native.Mathlib.Omega.{arith}
 use mathlib.Core.Path.{_≡_, refl, sym, ap, ap₂, _∙_}
-use mathlib.Core.Bool.{Bool, true, false, _||_, _&&_}
+use mathlib.Core.Bool.{true, false, _||_, _&&_}
 use mathlib.Core.Logic.{inl, inr, _⊎_}
 use lib.Dec.{eqb, lit<}
 use lib.Bits.{bitOr, bitAnd, or-step, and-step, or-add-and, and-le-r}
-use Rattle.std.proofs.shelf.Bits.{mod-below, pow-below, pow-pos}
-use Rattle.std.proofs.shelf.Tests.{eqb-true, eq-eqb, ne-eqb, cases-eq, both-ways}
+use Rattle.std.proofs.shelf.Bits.{mod-below}
+use Rattle.std.proofs.shelf.Tests.{eq-eqb, ne-eqb, cases-eq, both-ways}
 use Rattle.part.specs.Sets.{bit}
 
 pub lowest : (m : ℕ) → bit 0 m ≡ eqb (m % 2) 1

@@ -1,15 +1,15 @@
 -- Rows with at most one 1, whatever their width.
 -- Assumes nothing.
-use Prim.Native.Nat.{ℕ, zero, suc, _+_, _*_, _/_, _%_, _^_, _≤_, _<_}
+use Prim.Native.Nat.{ℕ, zero, suc, _/_, _%_, _≤_, _<_}
 use native.Mathlib.Omega.{arith}
 use mathlib.Core.Path.{_≡_, refl, sym, ap, _∙_}
-use mathlib.Core.Bool.{Bool, true, false, _||_}
+use mathlib.Core.Bool.{true, false, _||_}
 use mathlib.Core.Logic.{inl, inr, _⊎_}
-use lib.Dec.{eqb, leb, lit<}
+use lib.Dec.{eqb, lit<}
 use lib.Bits.{bitOr, or-add-and, and-le-l, and-le-r}
 use lib.Count.{ones, ones-step}
 use Rattle.std.proofs.shelf.Bits.{mod-below}
-use Rattle.std.proofs.shelf.Tests.{eqb-true, eq-eqb, leb-true, leb-false, lt-leb, le-leb, or-left, or-right, or-cases, cases-bool, cases-eq, cases-lt}
+use Rattle.std.proofs.shelf.Tests.{eqb-true, eq-eqb, leb-true, leb-false, or-left, or-right, or-cases, cases-bool, cases-eq}
 use Rattle.part.specs.Sets.{bit}
 use Rattle.part.specs.Rows.{exclusive, holds, OnePart, Apart, Another, OneMore}
 use Rattle.part.proofs.Bits.{lowest, higher, bit-or, some-bit}

@@ -1,6 +1,6 @@
 -- The two rows of a cell: the set of parts that may read it, and the set of those that may write it. Nothing here
 -- depends on how many parts there are. Assumes nothing.
-use Prim.Native.Nat.{ℕ, _^_, _≤_}
+use Prim.Native.Nat.{ℕ, _≤_}
 use mathlib.Core.Path.{_≡_}
 use mathlib.Core.Bool.{Bool, true, false, _||_}
 use lib.Bits.{bitOr}

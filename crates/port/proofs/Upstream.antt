@@ -3,10 +3,10 @@
 use Prim.Native.Nat.{ℕ, zero, suc, _<_}
 use native.Mathlib.Nat.{not-suc-le-zero}
 use native.Mathlib.Omega.{arith}
-use mathlib.Core.Path.{_≡_, refl, sym, ap, subst, _∙_}
+use mathlib.Core.Path.{_≡_, refl, sym, ap, _∙_}
 use mathlib.Core.Bool.{Bool, true, false, cond, not, _&&_, _||_}
 use mathlib.Core.Logic.{inl, inr, _⊎_}
-use Rattle.std.proofs.shelf.Tests.{false≢true, true≢false, both-ways, and-parts, and-from, or-left, or-right, cases-bool, cases-eq, eq-eqb, ne-eqb}
+use Rattle.std.proofs.shelf.Tests.{false≢true, both-ways, and-parts, and-from, cases-eq, eq-eqb, ne-eqb}
 use lib.Dec.{eqb}
 use Rattle.part.specs.Sets.{bit}
 use Rattle.port.specs.Upstream.{Closed, Smallest, all, allSets, closes, upstream}

@@ -12,6 +12,7 @@ use Rattle.port.specs.declared.ports.Ports.{Ports}
 use Rattle.port.specs.declared.refusal.PortRefusal.{PortRefusal}
 use Rattle.port.specs.declared.refusal.PortRefusal.the-variants as refusal
 
+-- the number of a refusal
 abbrev pub numberOf : PortRefusal → ℕ
 numberOf refusal.Port = 11
 
@@ -30,6 +31,7 @@ receivesOf ps x = getD (ps .ports) x noSets .receivers
 abbrev pub settled : List Port → ℕ → ℕ → ℕ → List Port
 settled ps x s r = cond (ltb x 16) (set ps x (record { senders = s; receivers = r })) ps
 
+-- the answer of a setting
 abbrev pub answered : ℕ → Result (Unit {0}) PortRefusal
 answered x = cond (ltb x 16) (Ok tt) (Err refusal.Port)
 

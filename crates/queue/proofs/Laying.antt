@@ -1,14 +1,12 @@
 -- Values laid over the first places, and what a send and a receive make of all queues.
 -- Assumes nothing.
 use mathlib.Core.Path.{_≡_, refl, sym, ap, ap₂, subst, _∙_, fun-ext}
-use mathlib.Core.Bool.{Bool, true, false, cond, _&&_}
 use mathlib.Core.Logic.{inl, inr, _⊎_}
 use mathlib.Core.List.{List, [], _∷_, _++_, map}
 use Prim.Native.Nat.{ℕ, _+_, _-_, _<_, _≤_, min}
 use native.Mathlib.Omega.{arith}
-use lib.Dec.{eqb, ltb}
 use lib.ListN.{length, take, drop}
-use Rattle.std.proofs.shelf.Lists.{take-all, drop-all, take-take, take-map, take-at, length-map, length-take-le}
+use Rattle.std.proofs.shelf.Lists.{take-all, drop-all, take-take, take-map, take-at}
 use Rattle.std.proofs.shelf.Tests.{cases-eq, cases-lt, lt-ltb, eq-eqb, ne-eqb}
 use Rattle.queue.specs.Queue.{Queue, empty, appended, first, taken}
 use Rattle.queue.specs.declared.queues.Taken.{Taken}

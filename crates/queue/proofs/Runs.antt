@@ -1,14 +1,12 @@
 -- A queue holds the last eight messages.
 -- Assumes nothing.
-use mathlib.Core.Path.{_≡_, refl, sym, ap, ap₂, subst, _∙_}
-use mathlib.Core.Bool.{Bool, true, false, cond}
+use mathlib.Core.Path.{_≡_, refl, sym, ap, subst, _∙_}
 use mathlib.Core.Logic.{inl, inr, _⊎_}
 use mathlib.Core.List.{List, [], _∷_, _++_}
 use Prim.Native.Nat.{ℕ, _+_, _-_, _<_, _≤_, min}
 use native.Mathlib.Omega.{arith}
-use lib.Dec.{ltb}
 use lib.ListN.{length, drop}
-use Rattle.std.proofs.shelf.Lists.{length-append, length-drop, length-push, drop-drop, drop-append-le, append-assoc, append-nil}
+use Rattle.std.proofs.shelf.Lists.{length-drop, length-push, drop-drop, drop-append-le, append-assoc, append-nil}
 use Rattle.std.proofs.shelf.Tests.{lt-ltb, le-ltb, cases-lt}
 use Rattle.queue.specs.Queue.{Queue, empty, appended, taken}
 use Rattle.queue.specs.Runs.{Holds, lastEight, appendedAll, LastEight}

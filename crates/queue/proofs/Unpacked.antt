@@ -1,14 +1,14 @@
 -- Packed messages seen as elements: a queue changes as its elements do.
 -- Assumes nothing.
-use mathlib.Core.Path.{_≡_, refl, sym, ap, ap₂, _∙_, fun-ext}
-use mathlib.Core.Bool.{Bool, true, false, cond, _&&_}
-use mathlib.Core.Logic.{inl, inr, _⊎_}
+use mathlib.Core.Path.{_≡_, refl, sym, ap, ap₂, _∙_}
+use mathlib.Core.Bool.{cond}
+use mathlib.Core.Logic.{inl, inr}
 use mathlib.Core.List.{List, [], _∷_, _++_, map}
-use Prim.Native.Nat.{ℕ, zero, suc, _+_, _-_, _<_, _≤_, min}
+use Prim.Native.Nat.{ℕ, _+_, _-_, _<_, _≤_, min}
 use native.Mathlib.Omega.{arith}
 use lib.Dec.{eqb, ltb}
-use lib.ListN.{length, take, drop, set, getD}
-use Rattle.std.proofs.shelf.Lists.{length-map, length-set, length-take, map-push, drop-map, take-map, map-set, getD-map, getD-past, getD-set-same, getD-set-other}
+use lib.ListN.{length, drop, set, getD}
+use Rattle.std.proofs.shelf.Lists.{length-map, map-push, drop-map, map-set, getD-map, getD-set-same, getD-set-other}
 use Rattle.std.proofs.shelf.Tests.{cases-eq, cases-lt, eq-eqb, ne-eqb, lt-ltb, le-ltb, cases-bool}
 use Rattle.element.specs.declared.words.Words.{Words}
 use Rattle.queue.specs.Queue.{Queue, empty, appended, first, taken}

@@ -11,17 +11,21 @@ pub record Example : Type 0 where
   pub message : List ℕ
   pub missed : ℕ
 
+-- what a take gives
 pub record Gives : Type 0 where
   pub message : List ℕ
   pub missed : ℕ
 
+-- n takes
 abbrev pub takenOften : ℕ → Queue ℕ → Queue ℕ
 takenOften zero q = q
 takenOften (suc n) q = takenOften n (taken q)
 
+-- what the definitions give
 abbrev pub answer : Example → Gives
 answer e = let q = takenOften (e .takes) (appendedAll (e .given) empty) in record { message = first (q .messages); missed = q .missed }
 
+-- what is expected
 abbrev pub expected : Example → Gives
 expected e = record { message = e .message; missed = e .missed }
 

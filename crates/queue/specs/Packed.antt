@@ -1,5 +1,5 @@
 -- What the code's messages and queues mean: packed elements, and the same as elements. Assumes nothing.
-use mathlib.Core.List.{List, [], _∷_, map}
+use mathlib.Core.List.{List, map}
 use Prim.Native.Nat.{ℕ}
 use mathlib.Core.Bool.{cond}
 use lib.Dec.{ltb}
@@ -10,9 +10,11 @@ use Rattle.queue.specs.declared.message.Message.{Message}
 use Rattle.queue.specs.declared.port_queue.PortQueue.{PortQueue}
 use Rattle.queue.specs.declared.queues.Queues.{Queues}
 
+-- the packed elements of a message
 abbrev pub elements : Message → List Words
 elements m = take (m .len) (m .words)
 
+-- a queue of packed messages
 abbrev pub messagesOf : PortQueue → Queue Words
 messagesOf q = record { messages = map elements (take (q .len) (q .items)); missed = q .missed }
 

@@ -17,10 +17,12 @@ sent x vs o y = cond (ltb x 16 && eqb y x) (appended (take 4 vs) (o y)) (o y)
 abbrev pub received : {E : Type 0} → ℕ → (ℕ → Queue E) → ℕ → Queue E
 received x o y = cond (eqb y x) (taken (o y)) (o y)
 
+-- the queues after a send, by the definition; and in the words of runs: the port was given one message more
 pub record Sent {E : Type 0} (o o′ : ℕ → Queue E) (x : ℕ) (vs : List E) : Type 0 where
   pub after : o′ ≡ sent x vs o
   pub run : x < 16 → (ms : List (List E)) → Holds ms (o x) → Holds (ms ++ (take 4 vs ∷ [])) (o′ x)
 
+-- the queues after a receive, by the definition; and in the words of runs: the port holds what is left, and counts anew
 pub record Received {E : Type 0} (o o′ : ℕ → Queue E) (x : ℕ) : Type 0 where
   pub after : o′ ≡ received x o
   pub run : (ms : List (List E)) → Holds ms (o x) → Holds (drop 1 (lastEight ms)) (o′ x)

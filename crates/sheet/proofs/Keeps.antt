@@ -1,20 +1,20 @@
 -- A change of one cell keeps what a sheet keeps.
 -- Assumes nothing.
 use mathlib.Core.Path.{_≡_, refl, sym, ap, _∙_, subst}
-use mathlib.Core.Bool.{Bool, true, false, cond, _&&_, _||_}
-use mathlib.Core.Logic.{inl, inr, _⊎_, _≢_}
+use mathlib.Core.Bool.{Bool, true, false, _&&_, _||_}
+use mathlib.Core.Logic.{inl, inr, _≢_}
 use mathlib.Core.List.{List}
 use Prim.Native.Nat.{ℕ, zero, suc, _+_, _<_, _≤_}
 use native.Mathlib.Omega.{arith}
 use lib.Dec.{ltb}
 use lib.ListN.{length, getD, set, replicate, take}
 use Rattle.std.proofs.shelf.Lists.{getD-set-same, getD-set-other, length-take-le}
-use Rattle.std.proofs.shelf.Tests.{cases-eq, and-parts, or-cases, or-left, or-right, both-ways}
+use Rattle.std.proofs.shelf.Tests.{cases-eq, or-cases, or-left, or-right, both-ways}
 use Rattle.part.specs.Sets.{bit}
 use Rattle.part.specs.Rows.{exclusive}
 use Rattle.part.proofs.Ones.{apart}
 use Rattle.sheet.specs.Cells.{member}
-use Rattle.sheet.specs.Rows.{Rows, readRow, writeRow, touchable}
+use Rattle.sheet.specs.Rows.{Rows, touchable}
 use Rattle.sheet.specs.Laws.{Kept}
 use Rattle.sheet.specs.Sound.{Exclusive, FrontZero, FrontWithin, FrontDistinct}
 use Rattle.sheet.proofs.Members.{member-place, within-front, distinct-front}

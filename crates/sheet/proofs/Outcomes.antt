@@ -1,13 +1,13 @@
 -- Outcomes where the tests are known, and what refusal 16 means.
 -- Assumes nothing.
-use mathlib.Core.Path.{_≡_, refl, sym, ap, ap₂, _∙_, subst}
+use mathlib.Core.Path.{_≡_, refl, ap, ap₂, _∙_, subst}
 use mathlib.Core.Bool.{Bool, true, false, cond, _&&_, _||_}
 use mathlib.Core.List.{[], _∷_, _++_}
 use mathlib.Core.Logic.{inl, inr, _⊎_}
 use Prim.Native.Nat.{ℕ, _^_, _<_, _≤_}
 use native.Mathlib.Omega.{arith}
 use lib.Dec.{eqb, ltb}
-use lib.ListN.{length, getD}
+use lib.ListN.{length}
 use lib.Bits.{bitOr}
 use Rattle.std.proofs.shelf.Tests.{lt-ltb, le-ltb, eq-eqb, eqb-true, cases-bool, true≢false}
 use Rattle.part.specs.Sets.{bit}
@@ -15,8 +15,8 @@ use Rattle.part.specs.Rows.{exclusive, holds, Another, OneMore}
 use Rattle.part.proofs.Bits.{bit-or, bit-single}
 use Rattle.part.proofs.Ones.{one-more}
 use Rattle.sheet.specs.Cells.{member}
-use Rattle.sheet.specs.Laws.{TakenFor, TakenIs16}
-use Rattle.sheet.specs.Rows.{Rows, Outcome, readRow, writeRow, blank, made, grantedRead, grantedWrite, grantedRows, grantNumber, granted, swapped}
+use Rattle.sheet.specs.Laws.{TakenIs16}
+use Rattle.sheet.specs.Rows.{Rows, readRow, writeRow, blank, made, grantedRead, grantedWrite, grantedRows, grantNumber, granted, swapped}
 
 pub made-none : (n : ℕ) → n ≡ 0 → made n ≡ record { rows = blank 1; number = 14 }
 made-none n e = rw e

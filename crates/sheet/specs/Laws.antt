@@ -8,6 +8,7 @@ use Rattle.part.specs.Rows.{Another}
 use Rattle.sheet.specs.Cells.{member, Within, Distinct}
 use Rattle.sheet.specs.Rows.{Rows, readRow, writeRow, touchable}
 
+-- what holds of every sheet
 pub record Kept (s : Rows) : Type 0 where
   -- what a part may write no other part may touch, swapped cells aside
   pub apart : (c p q : ℕ) → member (s .swaps) c ≡ false → touchable s true p c ≡ true → (touchable s false q c || touchable s true q c) ≡ true → q ≡ p

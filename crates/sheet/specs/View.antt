@@ -9,6 +9,7 @@ use Rattle.sheet.specs.declared.sheet.Sheet.{Sheet}
 use Rattle.sheet.specs.declared.sheet.Refused.{Refused}
 use Rattle.sheet.specs.Rows.{Rows, Outcome}
 
+-- the number of a refusal
 abbrev pub numberOf : Refusal → ℕ
 numberOf Part = 9
 numberOf Size = 14
@@ -17,6 +18,7 @@ numberOf Taken = 16
 numberOf Full = 17
 numberOf Mode = 18
 
+-- what a sheet says
 abbrev pub rowsOf : Sheet → Rows
 rowsOf s = record { read = s .read; write = s .write; size = s .size; swaps = take (s .count) (s .swapped) }
 

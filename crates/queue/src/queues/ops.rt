@@ -1,6 +1,5 @@
 ghost use mathlib.Core.Path.{_≡_};
 ghost use Prim.Native.Nat.{ℕ};
-ghost use Rattle.element.specs.declared.words.Words.{Words as Pair};
 ghost use Rattle.queue.specs.Packed.{packedAt, queueAt};
 ghost use Rattle.queue.specs.Ports.{Given, Received, Sent};
 ghost use Rattle.queue.specs.Queue.{empty};

@@ -1,10 +1,9 @@
-use mathlib.Core.Path.{_≡_, refl, sym, ap, ap₂, _∙_, subst}
+use mathlib.Core.Path.{_≡_, sym, ap, ap₂, _∙_}
 use mathlib.Core.List.{List, [], _∷_, _++_, map}
-use Prim.Native.Nat.{ℕ, _+_, _<_, _≤_, min}
+use Prim.Native.Nat.{ℕ, _+_, _<_, _≤_}
 use native.Mathlib.Omega.{arith}
 use lib.ListN.{length, take, drop, set}
 use Rattle.queue.specs.Packed.{elements, messagesOf}
-use Rattle.queue.specs.Queue.{Queue, appended}
 use Rattle.element.specs.declared.words.Words.{Words}
 use Rattle.queue.proofs.Front.{front-length, front-push, front-shift}
 use Rattle.queue.proofs.Runs.{appended-room, appended-full}

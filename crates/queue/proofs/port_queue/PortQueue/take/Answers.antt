@@ -1,10 +1,9 @@
-use mathlib.Core.Path.{_≡_, refl, sym, ap, ap₂, _∙_}
-use mathlib.Core.List.{List, [], _∷_, _++_, map}
+use mathlib.Core.Path.{_≡_, refl, ap, _∙_}
+use mathlib.Core.List.{List, [], map}
 use Prim.Native.Nat.{ℕ, _+_, _-_, _<_, _≤_}
 use native.Mathlib.Omega.{arith}
 use lib.ListN.{length, take, drop}
-use Rattle.queue.specs.Packed.{elements, messagesOf}
-use Rattle.queue.specs.Queue.{Queue, taken}
+use Rattle.queue.specs.Packed.{elements}
 use Rattle.element.specs.declared.words.Words.{Words}
 use Rattle.queue.proofs.Front.{front-pop, front-first}
 use Rattle.queue.proofs.Unpacked.{first-is}

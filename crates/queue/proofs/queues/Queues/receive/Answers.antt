@@ -1,11 +1,11 @@
-use mathlib.Core.Path.{_≡_, refl, sym, ap, ap₂, _∙_, fun-ext}
+use mathlib.Core.Path.{_≡_, sym, ap, _∙_, fun-ext}
 use mathlib.Core.List.{List, map}
-use Prim.Native.Nat.{ℕ, _<_, _≤_, min}
+use Prim.Native.Nat.{ℕ, _<_, min}
 use native.Mathlib.Omega.{arith}
-use lib.ListN.{length, take, getD, set}
-use Rattle.std.proofs.shelf.Lists.{length-map, length-take, getD-past}
+use lib.ListN.{length, set}
+use Rattle.std.proofs.shelf.Lists.{length-map, length-take}
 use Rattle.element.specs.declared.words.Words.{Words}
-use Rattle.queue.specs.Packed.{elements, messagesOf, packedAt, queueAt, unpackedBy}
+use Rattle.queue.specs.Packed.{elements, packedAt, queueAt}
 use Rattle.queue.specs.Ports.{laid}
 use Rattle.queue.specs.Queue.{Queue, empty, first, taken}
 use Rattle.queue.proofs.Laying.{given, given-none, received-all, received-none}

@@ -1,13 +1,11 @@
-use mathlib.Core.Path.{_≡_, refl, sym, ap, _∙_, fun-ext}
-use mathlib.Core.Bool.{true, false}
+use mathlib.Core.Path.{_≡_, ap, _∙_, fun-ext}
 use mathlib.Core.List.{List, map}
-use Prim.Native.Nat.{ℕ, _<_, _≤_}
+use Prim.Native.Nat.{_<_}
 use native.Mathlib.Omega.{arith}
 use lib.ListN.{length, take, set}
 use Rattle.std.proofs.shelf.Tests.{lt-ltb, le-ltb}
-use Rattle.element.specs.declared.words.Words.{Words}
-use Rattle.queue.specs.Packed.{elements, messagesOf, queueAt, unpackedBy}
-use Rattle.queue.specs.Queue.{Queue, appended}
+use Rattle.queue.specs.Packed.{elements, queueAt, unpackedBy}
+use Rattle.queue.specs.Queue.{appended}
 use Rattle.queue.proofs.Laying.{sent-all}
 use Rattle.queue.proofs.Runs.{last-eight}
 use Rattle.queue.proofs.Unpacked.{changed, queue-at, unpack-all, unpacked-appended}

@@ -1,8 +1,7 @@
-use mathlib.Core.Path.{_≡_, refl, sym, ap, ap₂, _∙_}
+use mathlib.Core.Path.{_≡_, sym, ap₂, _∙_}
 use mathlib.Core.Bool.{true, false}
-use mathlib.Core.List.{List}
 use Prim.Native.Nat.{ℕ, _≤_, _<_}
-use lib.ListN.{length, getD, set}
+use lib.ListN.{length, set}
 use native.Mathlib.Omega.{arith}
 use Rattle.part.specs.Rows.{exclusive}
 use Rattle.sheet.specs.Rows.{grantedRead, grantedWrite}

@@ -1,7 +1,7 @@
 use mathlib.Core.Path.{_≡_, ap, sym, _∙_}
 use mathlib.Core.Logic.{⊎-elim}
 use native.Mathlib.Omega.{arith}
-use Rattle.sheet.specs.Rows.{Rows, Outcome, made, blank}
+use Rattle.sheet.specs.Rows.{Rows, made, blank}
 use Rattle.sheet.proofs.Outcomes.{made-none, made-over, made-of}
 use Rattle.sheet.proofs.sheet.Sheet.new.Needs as need
 

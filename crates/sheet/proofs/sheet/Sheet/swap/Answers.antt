@@ -1,12 +1,10 @@
 use mathlib.Core.Path.{_≡_, sym, ap, _∙_}
 use mathlib.Core.List.{List}
-use Prim.Native.Nat.{ℕ, _+_, _≤_, _<_}
+use Prim.Native.Nat.{ℕ, _≤_, _<_}
 use lib.ListN.{length, getD, take}
-use lib.Bits.{bitOr}
 use native.Mathlib.Omega.{arith}
 use Rattle.std.proofs.shelf.Lists.{take-more-set, length-take-le}
 use Rattle.part.proofs.Ones.{or-none}
-use Rattle.sheet.specs.Rows.{Rows, Outcome}
 use Rattle.sheet.specs.View.{rowsOf}
 use Rattle.sheet.proofs.Members.{member-none}
 use Rattle.sheet.proofs.Keeps.{more-swaps, more-distinct}
