@@ -5,6 +5,7 @@ use mathlib.Core.Path.{_≡_}
 use mathlib.Core.Bool.{true, false}
 use mathlib.Core.List.{List}
 use lib.ListN.{length, getD}
+use Rattle.sheet.specs.Cells.{member}
 use Rattle.queue.specs.Queue.{empty}
 use Rattle.isolation.specs.Making.{Making}
 use Rattle.isolation.specs.Request.{Request, part, turnCall, granted}
@@ -13,7 +14,6 @@ use Rattle.isolation.specs.Effect.{put}
 use Rattle.isolation.specs.Machine.{State, heldBy, step}
 use Rattle.isolation.specs.Boxes.{Boxes, boxStep}
 use Rattle.isolation.specs.History.{stateAfter}
-use Rattle.isolation.specs.Lists.{member}
 
 -- Result cells ns took values vs: the cells were m and are m′. A cell takes the value of the first place that names it, or null
 -- where the values run short, and a cell that is not named keeps its element.
