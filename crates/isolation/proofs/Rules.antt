@@ -32,10 +32,10 @@ first-value : {E : Type 0} (z : E) (ns : List ℕ) (vs : List E) (i : ℕ) → i
 first-value z [] vs i l f = absurd (not-suc-le-zero l)
 first-value z (n ∷ ns) [] zero l f = refl
 first-value z (n ∷ ns) [] (suc i) l f = refl
-first-value z (n ∷ ns) (v ∷ vs) zero l f = rw (eq-eqb n n refl)
+first-value z (n ∷ ns) (v ∷ vs) zero l f = cond-true (eqb n n) v (beside z ns vs n) (eq-eqb n n refl)
 first-value z (n ∷ ns) (v ∷ vs) (suc i) l f =
     let d : eqb (getD ns i 0) n ≡ false = ne-eqb (getD ns i 0) n (λ e. f 0 (omega arith) (sym e)) in
-    rw d (first-value z ns vs i (omega arith) (λ j h e. f (suc j) (omega arith) e))
+    cond-false (eqb (getD ns i 0) n) v (beside z ns vs (getD ns i 0)) d ∙ (first-value z ns vs i (omega arith) (λ j h e. f (suc j) (omega arith) e))
 
 named-there : (ns : List ℕ) (i : ℕ) → i < length ns → member ns (getD ns i 0) ≡ true
 named-there [] i l = absurd (not-suc-le-zero l)
