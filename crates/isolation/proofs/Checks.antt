@@ -1,15 +1,16 @@
 -- What a passed check tells. Assumes nothing.
 use Prim.Native.Nat.{ℕ, suc, _<_}
-use mathlib.Core.Path.{_≡_, refl, subst}
-use mathlib.Core.Bool.{Bool, true, false, _||_}
+use mathlib.Core.Path.{_≡_, refl, sym, subst}
+use mathlib.Core.Bool.{Bool, true, false, _&&_, _||_}
+use mathlib.Core.Logic.{inl, inr, _⊎_}
 use mathlib.Core.List.{List, [], _∷_}
-use lib.Dec.{ltb}
-use Rattle.std.proofs.shelf.Tests.{ltb-true, and-parts}
+use lib.Dec.{eqb, ltb}
+use Rattle.std.proofs.shelf.Tests.{eq-eqb, ne-eqb, lt-ltb, ltb-true, cases-eq, and-parts}
 use Rattle.part.specs.Sets.{bit}
+use Rattle.sheet.specs.Cells.{member, Within}
 use Rattle.command.specs.Order.{Work, instruct, send, receive, Order, malformed, restore, save, work}
 use Rattle.isolation.specs.Making.{Making}
 use Rattle.isolation.specs.Check.{Verdict, pass, fail, when, each, may, check, readable, writable, sender, receiver}
-use Rattle.isolation.specs.Lists.{Within}
 
 Failed : Verdict → Type 0
 Failed pass = ⊥
@@ -65,3 +66,12 @@ module _ {E : Type 0} (k : Making E) (busy mine : Bool) (p : ℕ) where
   passed-receive x rs e =
       let a = when-pass (receiver k p x) _ _ _ (passed-work (receive x rs) e) in
       (ltb-true x 16 (and-parts (ltb x 16) (bit p (k .receives x)) (a .0) .0), every-within k p rs (each-pass (writable k p) 8 rs pass (a .1) .0))
+
+-- of cells that are below s, being named is being named and below s
+pub member-within : (s : ℕ) (ns : List ℕ) → Within s ns → (n : ℕ) → (member ns n && ltb n s) ≡ member ns n
+member-within s [] h n = refl
+member-within s (i ∷ ns) h n = go (cases-eq n i) (member-within s ns (h .1) n)
+  where
+    go : (n ≡ i) ⊎ (n ≡ i → ⊥) → (member ns n && ltb n s) ≡ member ns n → ((eqb n i || member ns n) && ltb n s) ≡ (eqb n i || member ns n)
+    go (inl d) e = rw (eq-eqb n i d) (lt-ltb n s (subst (λ (x : ℕ). x < s) (sym d) (h .0)))
+    go (inr d) e = rw (ne-eqb n i d) e

@@ -7,5 +7,5 @@ pub mod Simulate
 pub mod OneStep
 pub mod Purge
 pub mod History
-pub mod Lists
 pub mod Rules
+pub mod Steps

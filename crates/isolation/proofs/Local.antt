@@ -6,15 +6,16 @@ use mathlib.Core.Path.{_≡_, refl, ap, ap₂, subst, _∙_}
 use mathlib.Core.Bool.{Bool, true, false, _||_}
 use mathlib.Core.List.{List, [], _∷_, map}
 use lib.Dec.{eqb, ltb}
-use Rattle.std.proofs.shelf.Tests.{ltb-true, and-parts, or-left, or-right, both-ways}
+use Rattle.std.proofs.shelf.Tests.{ne-eqb, ltb-true, cond-false, and-parts, or-left, or-right, or-from, both-ways}
 use Rattle.part.specs.Sets.{bit}
+use Rattle.sheet.specs.Cells.{member}
 use Rattle.queue.specs.Queue.{Queue, appended, first, taken}
 use Rattle.command.specs.Order.{Work, instruct, send, receive}
 use Rattle.isolation.specs.Making.{Making, Outcome, fault, gives}
 use Rattle.isolation.specs.Request.{done}
 use Rattle.isolation.specs.Check.{pass, may, readable, writable, touchable, sender, receiver}
-use Rattle.isolation.specs.Effect.{put, Effect, settle, effect}
-use Rattle.isolation.proofs.Tables.{cond-two, replace-there, change-there}
+use Rattle.isolation.specs.Effect.{beside, put, Effect, settle, effect}
+use Rattle.isolation.proofs.Tables.{cond-two, change-there}
 use Rattle.isolation.proofs.Checks.{when-pass, Every, each-pass}
 
 -- reading and writing
@@ -23,17 +24,14 @@ map-alike g m m′ [] h a = refl
 map-alike g m m′ (n ∷ ns) h a = ap₂ _∷_ (a n (h .0)) (map-alike g m m′ ns (h .1) a)
 
 put-alike : {E : Type 0} (z : E) (ns : List ℕ) (vs : List E) (m m′ : ℕ → E) (n : ℕ) → m n ≡ m′ n → put z ns vs m n ≡ put z ns vs m′ n
-put-alike z [] vs m m′ n e = e
-put-alike z (i ∷ ns) [] m m′ n e = cond-two (eqb n i) refl (put-alike z ns [] m m′ n e)
-put-alike z (i ∷ ns) (v ∷ vs) m m′ n e = cond-two (eqb n i) refl (put-alike z ns vs m m′ n e)
+put-alike z ns vs m m′ n e = cond-two (member ns n) refl e
 
-differ : (g : ℕ → Bool) (n i : ℕ) → g i ≡ true → g n ≡ false → n ≡ i → ⊥
-differ g n i h f e = both-ways (g n) f (ap g e ∙ h)
+unnamed : (g : ℕ → Bool) (ns : List ℕ) (n : ℕ) → Every g ns → g n ≡ false → member ns n ≡ false
+unnamed g [] n h f = refl
+unnamed g (i ∷ ns) n h f = or-from (eqb n i) (member ns n) (ne-eqb n i (λ e. both-ways (g n) f (ap g e ∙ h .0))) (unnamed g ns n (h .1) f)
 
 put-frame : {E : Type 0} (g : ℕ → Bool) (z : E) (ns : List ℕ) (vs : List E) (m : ℕ → E) (n : ℕ) → Every g ns → g n ≡ false → put z ns vs m n ≡ m n
-put-frame g z [] vs m n h f = refl
-put-frame g z (i ∷ ns) [] m n h f = replace-there (put z ns [] m) z i n (differ g n i (h .0) f) ∙ put-frame g z ns [] m n (h .1) f
-put-frame g z (i ∷ ns) (v ∷ vs) m n h f = replace-there (put z ns vs m) v i n (differ g n i (h .0) f) ∙ put-frame g z ns vs m n (h .1) f
+put-frame g z ns vs m n h f = cond-false (member ns n) (beside z ns vs n) (m n) (unnamed g ns n h f)
 
 -- two tables agree on the cells that part p may touch
 abbrev pub Agree : {E : Type 0} → Making E → ℕ → (ℕ → E) → (ℕ → E) → Type 0

@@ -3,23 +3,23 @@ use Prim.Native.Nat.{ℕ, zero, suc, _+_, _≤_, _<_, min}
 use native.Mathlib.Nat.{not-suc-le-zero}
 use native.Mathlib.Omega.{arith}
 use mathlib.Core.Path.{_≡_, refl, sym, ap, subst, _∙_, fun-ext}
-use mathlib.Core.Bool.{Bool, true, false, cond, _&&_, _||_}
+use mathlib.Core.Bool.{Bool, true, false, cond, _&&_}
 use mathlib.Core.Logic.{inl, inr, _⊎_}
 use mathlib.Core.List.{List, [], _∷_, _++_, map}
 use lib.Dec.{eqb, ltb}
 use lib.ListN.{length, getD, drop, length-append, length-drop}
-use Rattle.std.proofs.shelf.Tests.{eqb-true, eq-eqb, ltb-true, false≢true, true≢false, cases-eq, both-ways, and-parts, and-from}
+use Rattle.std.proofs.shelf.Tests.{eqb-true, eq-eqb, ne-eqb, cond-true, cond-false, or-left, or-right, ltb-true, false≢true, true≢false, cases-eq, both-ways, and-parts, and-from}
+use Rattle.sheet.specs.Cells.{member}
 use Rattle.queue.specs.Queue.{Queue, empty, appended, taken}
 use Rattle.command.specs.Order.{Work, instruct, send, receive, Order, malformed, restore, save, work}
 use Rattle.isolation.specs.Tables.{replace, change}
 use Rattle.isolation.specs.Making.{Making, Outcome, fault, gives}
 use Rattle.isolation.specs.Request.{Request, whole, part, kind, turnKind, order, granted}
 use Rattle.isolation.specs.Check.{Verdict, pass, fail, check, writable}
-use Rattle.isolation.specs.Effect.{put, Effect, settle, effect}
+use Rattle.isolation.specs.Effect.{beside, put, Effect, settle, effect}
 use Rattle.isolation.specs.Machine.{State, made, isOpen, heldBy, act, step}
 use Rattle.isolation.specs.Boxes.{Boxes, boxAct}
 use Rattle.isolation.specs.History.{afterAll}
-use Rattle.isolation.specs.Lists.{member}
 use Rattle.isolation.specs.Rules.{Written, Bounded, Rules}
 use Rattle.isolation.proofs.Tables.{replace-here, replace-there, change-there}
 use Rattle.isolation.proofs.Checks.{passed-part, passed-work, passed-send, passed-receive}
@@ -27,34 +27,26 @@ use Rattle.isolation.proofs.Local.{frame}
 use Rattle.isolation.proofs.Orders.{Suits, suits-order}
 
 -- results
-or-none : (a b : Bool) → (a || b) ≡ false → (a ≡ false) × (b ≡ false)
-or-none true b e = absurd (true≢false e)
-or-none false b e = (refl, e)
+first-value : {E : Type 0} (z : E) (ns : List ℕ) (vs : List E) (i : ℕ) → i < length ns → ((j : ℕ) → j < i → getD ns j 0 ≡ getD ns i 0 → ⊥) →
+    beside z ns vs (getD ns i 0) ≡ getD vs i z
+first-value z [] vs i l f = absurd (not-suc-le-zero l)
+first-value z (n ∷ ns) [] zero l f = refl
+first-value z (n ∷ ns) [] (suc i) l f = refl
+first-value z (n ∷ ns) (v ∷ vs) zero l f = cond-true (eqb n n) v (beside z ns vs n) (eq-eqb n n refl)
+first-value z (n ∷ ns) (v ∷ vs) (suc i) l f =
+    let d : eqb (getD ns i 0) n ≡ false = ne-eqb (getD ns i 0) n (λ e. f 0 (omega arith) (sym e)) in
+    cond-false (eqb (getD ns i 0) n) v (beside z ns vs (getD ns i 0)) d ∙ (first-value z ns vs i (omega arith) (λ j h e. f (suc j) (omega arith) e))
 
-named : {E : Type 0} (z : E) (ns : List ℕ) (vs : List E) (m : ℕ → E) (i : ℕ) → i < length ns → ((j : ℕ) → j < i → getD ns j 0 ≡ getD ns i 0 → ⊥) →
-    put z ns vs m (getD ns i 0) ≡ getD vs i z
-named z [] vs m i l f = absurd (not-suc-le-zero l)
-named z (n ∷ ns) [] m zero l f = replace-here (put z ns [] m) z n n refl
-named z (n ∷ ns) (v ∷ vs) m zero l f = replace-here (put z ns vs m) v n n refl
-named z (n ∷ ns) [] m (suc i) l f =
-    replace-there (put z ns [] m) z n (getD ns i 0) (λ e. f 0 (omega arith) (sym e)) ∙ named z ns [] m i (omega arith) (λ j h e. f (suc j) (omega arith) e)
-named z (n ∷ ns) (v ∷ vs) m (suc i) l f =
-    replace-there (put z ns vs m) v n (getD ns i 0) (λ e. f 0 (omega arith) (sym e)) ∙ named z ns vs m i (omega arith) (λ j h e. f (suc j) (omega arith) e)
-
-differs : (n i : ℕ) → eqb n i ≡ false → n ≡ i → ⊥
-differs n i f e = both-ways (eqb n i) f (eq-eqb n i e)
-
-others : {E : Type 0} (z : E) (ns : List ℕ) (vs : List E) (m : ℕ → E) (n : ℕ) → member ns n ≡ false → put z ns vs m n ≡ m n
-others z [] vs m n f = refl
-others z (i ∷ ns) [] m n f =
-    let g = or-none (eqb n i) (member ns n) f in
-    replace-there (put z ns [] m) z i n (differs n i (g .0)) ∙ others z ns [] m n (g .1)
-others z (i ∷ ns) (v ∷ vs) m n f =
-    let g = or-none (eqb n i) (member ns n) f in
-    replace-there (put z ns vs m) v i n (differs n i (g .0)) ∙ others z ns vs m n (g .1)
+named-there : (ns : List ℕ) (i : ℕ) → i < length ns → member ns (getD ns i 0) ≡ true
+named-there [] i l = absurd (not-suc-le-zero l)
+named-there (n ∷ ns) zero l = or-left (eqb n n) (member ns n) (eq-eqb n n refl)
+named-there (n ∷ ns) (suc i) l = or-right (eqb (getD ns i 0) n) (member ns (getD ns i 0)) (named-there ns i (omega arith))
 
 pub written : {E : Type 0} (z : E) (ns : List ℕ) (vs : List E) (m : ℕ → E) → Written z ns vs m (put z ns vs m)
-written z ns vs m = record { named = named z ns vs m; others = others z ns vs m }
+written z ns vs m = record {
+  named = λ i l f. cond-true (member ns (getD ns i 0)) (beside z ns vs (getD ns i 0)) (m (getD ns i 0)) (named-there ns i l) ∙ first-value z ns vs i l f;
+  others = λ n f. cond-false (member ns n) (beside z ns vs n) (m n) f;
+}
 
 -- refusals
 record Same {E : Type 0} (m : ℕ → E) (q : ℕ → Queue E) (e : Effect E) : Type 0 where

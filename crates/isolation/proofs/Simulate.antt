@@ -18,7 +18,7 @@ use Rattle.isolation.specs.History.{logOf, machineLog, boxLog}
 use Rattle.isolation.proofs.Tables.{cond-two, replace-here, replace-there, any-here, any-none}
 use Rattle.isolation.proofs.Checks.{when-pass}
 use Rattle.isolation.proofs.Local.{SameEffect, same-effect, frame}
-use Rattle.isolation.proofs.Exclusive.{apart}
+use Rattle.isolation.proofs.Exclusive.{unshared}
 
 -- turns
 not-open : (t : Turn) → isOpen t ≡ false → (q : ℕ) → heldBy t q ≡ false
@@ -145,7 +145,7 @@ like-act {E} k so pass p (work w) s r e l =
             cond (k .swapped n) (cond (heldBy (s .turn) q) (s .cells n) (s .saveRows q n)) (s .cells n)
             ≡ cond (k .swapped n) (cond (heldBy (s .turn) q) (m₁ n) (s .saveRows q n)) (m₁ n)
         other f (inl z) = rw (z, f)
-        other f (inr z) = rw z (sym (frame k p w ok (s .cells) (s .queues) n (apart k so p q n z t d)))
+        other f (inr z) = rw z (sym (frame k p w ok (s .cells) (s .queues) n (unshared k so p q n z t d)))
 
 like-step : {E : Type 0} (k : Making E) → Exclusive k → (c : Request) (s : State E) (r : Boxes E) → Like k s r → SameStep k (step k c s) (boxStep k c r)
 like-step k so c s r l =

@@ -5,8 +5,11 @@ use native.Mathlib.Omega.{arith}
 use mathlib.Core.Path.{_≡_, refl, sym, ap, _∙_}
 use mathlib.Core.Bool.{Bool, true, false, cond, _||_}
 use mathlib.Core.Logic.{inl, inr, _⊎_}
+use mathlib.Core.List.{List}
+use lib.ListN.{length, set}
+use Rattle.std.proofs.shelf.Lists.{getD-set-same, getD-set-other}
 use Rattle.std.proofs.shelf.Tests.{eq-eqb, ne-eqb, cases-eq, or-left, or-right, or-from}
-use Rattle.isolation.specs.Tables.{replace, change, any}
+use Rattle.isolation.specs.Tables.{at, replace, change, any}
 
 pub cond-two : {V : Type 0} (b : Bool) {x y x′ y′ : V} → x ≡ x′ → y ≡ y′ → cond b x y ≡ cond b x′ y′
 cond-two true e f = e
@@ -32,3 +35,11 @@ any-here (suc n) p f h e = go (λ l. any-here n p f l e) (cases-eq p n)
 pub any-none : (n : ℕ) (f : ℕ → Bool) → ((q : ℕ) → q < n → f q ≡ false) → any n f ≡ false
 any-none zero f h = refl
 any-none (suc n) f h = or-from (f n) (any n f) (h n (omega arith)) (any-none n f (λ q l. h q (omega arith)))
+
+-- a list with one value set is the table with that value replaced
+pub at-set : {V : Type 0} (z : V) (l : List V) (i : ℕ) (v : V) → i < length l → (n : ℕ) → at z (set l i v) n ≡ replace (at z l) i v n
+at-set z l i v h n = go (cases-eq n i)
+  where
+    go : (n ≡ i) ⊎ (n ≡ i → ⊥) → at z (set l i v) n ≡ replace (at z l) i v n
+    go (inl d) = rw (eq-eqb n i d) (ap (at z (set l i v)) d ∙ getD-set-same l i v z h)
+    go (inr d) = rw (ne-eqb n i d) (getD-set-other l i n v z d)

@@ -17,7 +17,8 @@ pub record Isolated {E : Type 0} (k : Making E) : Type 0 where
   pub logs : (h : List Request) → machineLog k h ≡ boxLog k h
   -- (b) what is left of a history for a part, given to a second machine of the same making, is answered as in the history
   pub alone : (p : ℕ) → p < k .parts → (h : List Request) → machineLog k (left k p h) ≡ leftLog k p h
-  -- where the parts upstream of p are the smallest set that holds p and all senders and receivers of the ports it hears
+  -- where the parts upstream of p are the smallest set that holds p and, for each port that a member may receive from, all its
+  -- senders and receivers
   pub upstream : (p : ℕ) → p < k .parts → SmallestOf k p (upstreamOf k p)
 
 -- The theorem: every making with an exclusive sheet isolates its parts.

@@ -9,4 +9,3 @@ pub mod History
 pub mod OneStep
 pub mod Isolation
 pub mod Rules
-pub mod Lists

@@ -1,10 +1,9 @@
 -- What a host is made of. Assumes nothing.
-use Prim.Native.Nat.{ℕ, _≤_}
+use Prim.Native.Nat.{ℕ}
 use mathlib.Core.Path.{_≡_}
 use mathlib.Core.Bool.{Bool, true}
 use mathlib.Core.List.{List}
-use lib.Bits.{bitOr}
-use lib.Count.{ones}
+use Rattle.part.specs.Rows.{exclusive}
 use Rattle.port.specs.Upstream.{Smallest, upstream}
 
 -- what an instruction set gives for a code and elements: a fault with its number, or a list of elements
@@ -30,10 +29,10 @@ pub record Making (E : Type 0) : Type 0 where
   -- the cells at making
   pub cells : ℕ → E
 
--- The sheet is exclusive: the ones in both rows of a cell taken together number at most one, and a swapped cell has none.
+-- The sheet is exclusive: the ones in both rows of a cell taken together number at most one, and the rows of a swapped cell are zero.
 pub record Exclusive {E : Type 0} (k : Making E) : Type 0 where
-  pub single : (n : ℕ) → ones (bitOr (k .reads n) (k .writes n)) ≤ 1
-  pub bare : (n : ℕ) → k .swapped n ≡ true → ones (bitOr (k .reads n) (k .writes n)) ≡ 0
+  pub single : (n : ℕ) → exclusive (k .reads n) (k .writes n) ≡ true
+  pub bare : (n : ℕ) → k .swapped n ≡ true → (k .reads n ≡ 0) × (k .writes n ≡ 0)
 
 -- whether part q is upstream of part p
 abbrev pub upstreamOf : {E : Type 0} → Making E → ℕ → ℕ → Bool

@@ -28,9 +28,12 @@ GrantedAlike k c b b′ = turnCall c ≡ true → granted (boxStep k c b .answer
 -- The claim on one step. After the same request, boxes that were alike for the parts of u are alike for them, and a request of
 -- one of them is answered alike. A request of any other part alters nothing of this.
 pub record OneStep {E : Type 0} (k : Making E) (u : ℕ → Bool) : Type 0 where
-  pub after : (c : Request) (b b′ : Boxes E) → Alike k u b b′ → GrantedAlike k c b b′ → Alike k u (boxStep k c b .after) (boxStep k c b′ .after)
-  pub answer : (c : Request) (b b′ : Boxes E) → Alike k u b b′ → GrantedAlike k c b b′ → u (part c) ≡ true → boxStep k c b .answer ≡ boxStep k c b′ .answer
-  pub other : (c : Request) (b b′ : Boxes E) → Alike k u b b′ → u (part c) ≡ false → Alike k u (boxStep k c b .after) b′
+  pub after : (c : Request) (b b′ : Boxes E) → Alike k u b b′ → GrantedAlike k c b b′ →
+      Alike k u (boxStep k c b .after) (boxStep k c b′ .after)
+  pub answer : (c : Request) (b b′ : Boxes E) → Alike k u b b′ → GrantedAlike k c b b′ → u (part c) ≡ true →
+      boxStep k c b .answer ≡ boxStep k c b′ .answer
+  pub other : (c : Request) (b b′ : Boxes E) → Alike k u b b′ → u (part c) ≡ false →
+      Alike k u (boxStep k c b .after) b′
 
 -- of every making and every set of parts that holds, for each port that a member may receive from, all its senders and receivers
 abbrev pub Unwinding : Type 0 → Type 0

@@ -5,6 +5,7 @@ use mathlib.Core.Path.{_≡_}
 use mathlib.Core.Bool.{true, false}
 use mathlib.Core.List.{List}
 use lib.ListN.{length, getD}
+use Rattle.sheet.specs.Cells.{member}
 use Rattle.queue.specs.Queue.{empty}
 use Rattle.isolation.specs.Making.{Making}
 use Rattle.isolation.specs.Request.{Request, part, turnCall, granted}
@@ -13,12 +14,12 @@ use Rattle.isolation.specs.Effect.{put}
 use Rattle.isolation.specs.Machine.{State, heldBy, step}
 use Rattle.isolation.specs.Boxes.{Boxes, boxStep}
 use Rattle.isolation.specs.History.{stateAfter}
-use Rattle.isolation.specs.Lists.{member}
 
 -- Result cells ns took values vs: the cells were m and are m′. A cell takes the value of the first place that names it, or null
 -- where the values run short, and a cell that is not named keeps its element.
 pub record Written {E : Type 0} (z : E) (ns : List ℕ) (vs : List E) (m m′ : ℕ → E) : Type 0 where
-  pub named : (i : ℕ) → i < length ns → ((j : ℕ) → j < i → getD ns j 0 ≡ getD ns i 0 → ⊥) → m′ (getD ns i 0) ≡ getD vs i z
+  pub named : (i : ℕ) → i < length ns → ((j : ℕ) → j < i → getD ns j 0 ≡ getD ns i 0 → ⊥) →
+      m′ (getD ns i 0) ≡ getD vs i z
   pub others : (n : ℕ) → member ns n ≡ false → m′ n ≡ m n
 
 -- A state is in bounds: the turn is a part's, save rows are null off the swapped cells, a queue has at most eight messages and a
@@ -36,7 +37,8 @@ pub record Rules {E : Type 0} (k : Making E) : Type 0 where
   pub boxRefused : (c : Request) (b : Boxes E) → granted (boxStep k c b .answer) ≡ false → boxStep k c b .after ≡ b
   -- anything but a turn call leaves the turn, and changes no cell that its part may not write
   pub turn : (c : Request) (s : State E) → turnCall c ≡ false → step k c s .after .turn ≡ s .turn
-  pub unwritten : (c : Request) (s : State E) (n : ℕ) → turnCall c ≡ false → writable k (part c) n ≡ false → step k c s .after .cells n ≡ s .cells n
+  pub unwritten : (c : Request) (s : State E) (n : ℕ) → turnCall c ≡ false → writable k (part c) n ≡ false →
+      step k c s .after .cells n ≡ s .cells n
   -- in the boxes a turn call moves no cell and no message, and anything else moves no mark
   pub boxCells : (c : Request) (b : Boxes E) → turnCall c ≡ true → boxStep k c b .after .cells ≡ b .cells
   pub boxQueues : (c : Request) (b : Boxes E) → turnCall c ≡ true → boxStep k c b .after .queues ≡ b .queues

@@ -7,13 +7,13 @@ use Rattle.isolation.specs.Request.{Request}
 -- room for n cell numbers, two bytes each; the rest is zero
 abbrev pub cellBytes : ℕ → List ℕ → List ℕ
 cellBytes zero xs = []
-cellBytes (suc n) [] = 0 ∷ (0 ∷ cellBytes n [])
-cellBytes (suc n) (x ∷ xs) = x % 256 ∷ (x / 256 ∷ cellBytes n xs)
+cellBytes (suc n) [] = 0 ∷ 0 ∷ cellBytes n []
+cellBytes (suc n) (x ∷ xs) = (x % 256) ∷ (x / 256) ∷ cellBytes n xs
 
 -- part, kind, code, port, argument cells, result cells
 abbrev pub bytes : ℕ → ℕ → ℕ → ℕ → List ℕ → List ℕ → List ℕ
 bytes p kind code port xs rs =
-    0 ∷ (0 ∷ (p ∷ (kind ∷ (code ∷ (port ∷ (length xs ∷ (length rs ∷ (cellBytes 8 xs ++ cellBytes 4 rs))))))))
+    0 ∷ 0 ∷ p ∷ kind ∷ code ∷ port ∷ length xs ∷ length rs ∷ (cellBytes 8 xs ++ cellBytes 4 rs)
 
 -- a request with scratch enough, at place 1
 abbrev pub request : List ℕ → Request

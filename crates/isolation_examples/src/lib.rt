@@ -2,8 +2,6 @@
 ghost use Rattle.isolation_examples.specs.Examples.{Examples};
 
 // The examples hold.
-pub fn examples_hold() -> u8
+pub fn examples_hold()
     ensures { λ _. ⌜ Examples ⌝ }
-{
-    0
-}
+{}
