@@ -76,7 +76,8 @@ pub impl<'a, E: Element> Store for Packed<'a, E> as PackedStore {
     }
 
     fn read(&mut self, n: usize) -> Result<E, StoreFault>
-        ensures reads { λ r. ⌜ Reads (elements unpacked (now (now (self .entry) .words))) n r (elements unpacked (now (now (self .exit) .words))) ⌝ }
+        ensures reads { λ r. ⌜ Reads (elements unpacked (now (now (self .entry) .words))) n r
+            (elements unpacked (now (now (self .exit) .words))) ⌝ }
         ensures lender { λ _. ⌜ name (now (self .exit) .words) ∷ [] ≡ name (now (self .entry) .words) ∷ [] ⌝ }
         ensures words { λ _. ⌜ now (now (self .exit) .words) ≡ now (now (self .entry) .words) ⌝ }
     {
@@ -84,7 +85,8 @@ pub impl<'a, E: Element> Store for Packed<'a, E> as PackedStore {
     }
 
     fn write(&mut self, n: usize, x: E) -> Result<(), StoreFault>
-        ensures writes { λ r. ⌜ Writes (elements unpacked (now (now (self .entry) .words))) n x r (elements unpacked (now (now (self .exit) .words))) ⌝ }
+        ensures writes { λ r. ⌜ Writes (elements unpacked (now (now (self .entry) .words))) n x r
+            (elements unpacked (now (now (self .exit) .words))) ⌝ }
         ensures lender { λ _. ⌜ name (now (self .exit) .words) ∷ [] ≡ name (now (self .entry) .words) ∷ [] ⌝ }
         ensures words { λ r. ⌜ now (now (self .exit) .words) ≡ rewritten r n (packed x) (now (now (self .entry) .words)) ⌝ }
     {
