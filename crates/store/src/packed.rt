@@ -11,10 +11,11 @@ use element::element::Element;
 use element::words::Words;
 use std::marker::PhantomData;
 
-fn pairs(words: &[u32]) -> usize
-    ensures { λ r. ⌜ r ≡ length (now (words .entry)) / 2 ⌝ }
+// How many cells the words make.
+fn pairs(list: &[u32]) -> usize
+    ensures { λ r. ⌜ r ≡ length (now (list .entry)) / 2 ⌝ }
 {
-    words.len() / 2
+    list.len() / 2
 }
 
 fn read_pair<E: Element>(words: &mut [u32], n: usize) -> Result<E, StoreFault>

@@ -49,7 +49,8 @@ pub fn scatter<S: Store>(store: &mut S, cells: &[u8], values: &[S::Item])
     ensures { λ _. ⌜ Scattered S·Store Item·Element (now (store .entry)) (now (store .exit))
         (cellList (now (cells .entry))) (now (values .entry)) ⌝ }
 {
-    for i in (0..count(cells)).rev() {
+    let named = count(cells);
+    for i in (0..named).rev() {
         let _ = store.write(cell(cells, i), value_or_null(values, i));
     }
 }

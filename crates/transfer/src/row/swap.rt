@@ -46,8 +46,8 @@ pub fn swap_out<S: Store>(store: &mut S, swaps: &[usize]) -> SaveRow
         first: 0,
         second: 0,
     }; 16];
-    let many = swaps.len().min(16);
-    for i in 0..many {
+    let taken = swaps.len().min(16);
+    for i in 0..taken {
         words[i] = read_or_null(store, swaps[i]).pack();
     }
     SaveRow { words }
