@@ -42,6 +42,11 @@ module _ {S E : Type 0} (st : Stores S E) where
     abbrev pub meant : Held S E → List E
     meant h = meaning el (layerOf h)
 
+    -- the first k of the held writes went down, and nothing else changed
+    pub record SentDown (x y : Held S E) (k : ℕ) : Type 0 where
+      pub held : heldIn (y .table) ≡ drop k (heldIn (x .table))
+      pub below : Sends st el (x .below) (take k (heldIn (x .table))) (y .below)
+
     -- what a write to cell n sends down: nothing where it is refused
     abbrev pub sentBy : {U F : Type 0} → Result U F → ℕ → List HeldWrite → List HeldWrite
     sentBy (Ok _) n ws = take (outgoing n ws) ws

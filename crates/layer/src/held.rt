@@ -1,11 +1,11 @@
 ghost use mathlib.Core.Path.{_≡_};
 ghost use mathlib.Core.List.{List, []};
 ghost use Prim.Native.Nat.{ℕ, _<_};
-ghost use lib.ListN.{length, take, drop};
+ghost use lib.ListN.{length};
 ghost use Rattle.store.specs.Meaning.{Reads, Writes};
-ghost use Rattle.layer.specs.Holds.{outgoing, laid};
+ghost use Rattle.layer.specs.Holds.{outgoing};
 ghost use Rattle.layer.specs.Layers.{heldIn, Transparent};
-ghost use Rattle.layer.specs.Steps.{Sends, meant, TakesRead, TakesWrite, Flushes, Closes};
+ghost use Rattle.layer.specs.Steps.{meant, SentDown, TakesRead, TakesWrite, Flushes, Closes};
 use crate::held_write::HeldWrite;
 use crate::table::Table;
 use element::element::Element;
@@ -34,8 +34,7 @@ impl<S: Store> Held<S> {
     // Sends the longest-held write down.
     fn send(&mut self)
         requires { ⌜ 0 < length (heldIn (now self .table)) ⌝ }
-        ensures held { λ _. ⌜ heldIn (now (self .exit) .table) ≡ drop 1 (heldIn (now (self .entry) .table)) ⌝ }
-        ensures below { λ _. ⌜ Sends S·Store Item·Element (now (self .entry) .below) (take 1 (heldIn (now (self .entry) .table))) (now (self .exit) .below) ⌝ }
+        ensures { λ _. ⌜ SentDown S·Store Item·Element (now (self .entry)) (now (self .exit)) 1 ⌝ }
     {
         let w = self.table.shift();
         let x = <S::Item as Element>::unpack(w.words);
@@ -44,8 +43,7 @@ impl<S: Store> Held<S> {
 
     // Sends the longest-held write down where cell n would be a seventeenth.
     fn make_room(&mut self, n: usize)
-        ensures held { λ _. ⌜ heldIn (now (self .exit) .table) ≡ drop (outgoing n (heldIn (now (self .entry) .table))) (heldIn (now (self .entry) .table)) ⌝ }
-        ensures below { λ _. ⌜ Sends S·Store Item·Element (now (self .entry) .below) (take (outgoing n (heldIn (now (self .entry) .table))) (heldIn (now (self .entry) .table))) (now (self .exit) .below) ⌝ }
+        ensures { λ _. ⌜ SentDown S·Store Item·Element (now (self .entry)) (now (self .exit)) (outgoing n (heldIn (now (self .entry) .table))) ⌝ }
     {
         if self.table.is_full_for(n) {
             self.send();
@@ -84,7 +82,8 @@ pub impl<S: Store> Store for Held<S> as HeldStore {
     }
 
     fn read(&mut self, n: usize) -> Result<S::Item, StoreFault>
-        ensures reads { λ r. ⌜ Reads (meant S·Store Item·Element (now (self .entry))) n r (meant S·Store Item·Element (now (self .exit))) ⌝ }
+        ensures reads { λ r. ⌜ Reads (meant S·Store Item·Element (now (self .entry))) n r
+            (meant S·Store Item·Element (now (self .exit))) ⌝ }
         ensures lender { λ _. ⌜ S·Store .lender (now (self .exit) .below) ≡ S·Store .lender (now (self .entry) .below) ⌝ }
         ensures layer { λ _. ⌜ TakesRead S·Store (now (self .entry)) (now (self .exit)) n ⌝ }
     {
@@ -98,7 +97,8 @@ pub impl<S: Store> Store for Held<S> as HeldStore {
     }
 
     fn write(&mut self, n: usize, x: S::Item) -> Result<(), StoreFault>
-        ensures writes { λ r. ⌜ Writes (meant S·Store Item·Element (now (self .entry))) n x r (meant S·Store Item·Element (now (self .exit))) ⌝ }
+        ensures writes { λ r. ⌜ Writes (meant S·Store Item·Element (now (self .entry))) n x r
+            (meant S·Store Item·Element (now (self .exit))) ⌝ }
         ensures lender { λ _. ⌜ S·Store .lender (now (self .exit) .below) ≡ S·Store .lender (now (self .entry) .below) ⌝ }
         ensures layer { λ r. ⌜ TakesWrite S·Store Item·Element (now (self .entry)) (now (self .exit)) n x r ⌝ }
     {

@@ -9,7 +9,7 @@ use Rattle.std.proofs.shelf.Lists.{append-assoc, append-nil, take-append-drop, 
 use Rattle.std.proofs.shelf.Tests.{cases-lt}
 use Rattle.store.specs.declared.access.Access.{Access}
 use Rattle.store.specs.declared.access.Answer.{Answer}
-use Rattle.store.specs.Sequences.{answer, after, answers, afterAll}
+use Rattle.store.specs.Sequences.{answer, after, answers, afterAll, Answered}
 
 -- after i accesses of `todo` the store, which meant xs, means ys, and the first i places have the answers
 pub record Going {E : Type 0} (xs ys : List E) (todo : List (Access E)) (before places : List (Answer E)) (i : ℕ) : Type 0 where
@@ -48,12 +48,13 @@ module _ {E : Type 0} where
 
   pub going-end : (xs ys : List E) (accesses : List (Access E)) (before places : List (Answer E)) (i : ℕ) → i ≡ min (length accesses) (length before) →
       Going xs ys (take (length before) accesses) before places i →
-      (places ≡ answers xs (take (length before) accesses) ++ drop (length accesses) before) × (ys ≡ afterAll xs (take (length before) accesses))
+      Answered xs ys accesses before places
   going-end xs ys accesses before places i h s =
       let todo = take (length before) accesses in
       let none : drop i todo ≡ [] = drop-all i todo (omega (arith, length-take (length before) accesses)) in
       let front : take i places ≡ answers xs todo =
-      sym (append-nil (take i places)) ∙ (ap (λ (t : List (Access E)). take i places ++ answers ys t) (sym none) ∙ s .front) in (
-        sym (take-append-drop i places) ∙ ap₂ (λ (t w : List (Answer E)). t ++ w) front (s .back ∙ past-all accesses before i h),
-        ap (λ (t : List (Access E)). afterAll ys t) (sym none) ∙ s .cells,
-      )
+      sym (append-nil (take i places)) ∙ (ap (λ (t : List (Access E)). take i places ++ answers ys t) (sym none) ∙ s .front) in
+      record {
+        told = sym (take-append-drop i places) ∙ ap₂ (λ (t w : List (Answer E)). t ++ w) front (s .back ∙ past-all accesses before i h);
+        left = ap (λ (t : List (Access E)). afterAll ys t) (sym none) ∙ s .cells;
+      }

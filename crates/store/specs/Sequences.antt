@@ -47,8 +47,13 @@ pub record Performed {S E : Type 0} (st : Stores S E) (x y : S) (access : Access
   pub cells : st .cells y ≡ after (st .cells x) access
   pub lender : st .lender y ≡ st .lender x
 
--- the same of accesses, one after another, with as many answers as there are places; later places stay
+-- The list xs, which became ys, answered accesses one after another, as far as there were places for the answers.
+-- Places past the accesses stay.
+pub record Answered {E : Type 0} (xs ys : List E) (accesses : List (Access E)) (before places : List (Answer E)) : Type 0 where
+  pub told : places ≡ answers xs (take (length before) accesses) ++ drop (length accesses) before
+  pub left : ys ≡ afterAll xs (take (length before) accesses)
+
+-- a store x, which became y, answered accesses as the list that it means does
 pub record Replayed {S E : Type 0} (st : Stores S E) (x y : S) (accesses : List (Access E)) (before places : List (Answer E)) : Type 0 where
-  pub answered : places ≡ answers (st .cells x) (take (length before) accesses) ++ drop (length accesses) before
-  pub cells : st .cells y ≡ afterAll (st .cells x) (take (length before) accesses)
+  pub cells : Answered (st .cells x) (st .cells y) accesses before places
   pub lender : st .lender y ≡ st .lender x

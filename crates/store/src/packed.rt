@@ -11,10 +11,11 @@ use element::element::Element;
 use element::words::Words;
 use std::marker::PhantomData;
 
-fn pairs(words: &[u32]) -> usize
-    ensures { λ r. ⌜ r ≡ length (now (words .entry)) / 2 ⌝ }
+// How many cells the words make.
+fn pairs(list: &[u32]) -> usize
+    ensures { λ r. ⌜ r ≡ length (now (list .entry)) / 2 ⌝ }
 {
-    words.len() / 2
+    list.len() / 2
 }
 
 fn read_pair<E: Element>(words: &mut [u32], n: usize) -> Result<E, StoreFault>
@@ -76,7 +77,8 @@ pub impl<'a, E: Element> Store for Packed<'a, E> as PackedStore {
     }
 
     fn read(&mut self, n: usize) -> Result<E, StoreFault>
-        ensures reads { λ r. ⌜ Reads (elements unpacked (now (now (self .entry) .words))) n r (elements unpacked (now (now (self .exit) .words))) ⌝ }
+        ensures reads { λ r. ⌜ Reads (elements unpacked (now (now (self .entry) .words))) n r
+            (elements unpacked (now (now (self .exit) .words))) ⌝ }
         ensures lender { λ _. ⌜ name (now (self .exit) .words) ∷ [] ≡ name (now (self .entry) .words) ∷ [] ⌝ }
         ensures words { λ _. ⌜ now (now (self .exit) .words) ≡ now (now (self .entry) .words) ⌝ }
     {
@@ -84,7 +86,8 @@ pub impl<'a, E: Element> Store for Packed<'a, E> as PackedStore {
     }
 
     fn write(&mut self, n: usize, x: E) -> Result<(), StoreFault>
-        ensures writes { λ r. ⌜ Writes (elements unpacked (now (now (self .entry) .words))) n x r (elements unpacked (now (now (self .exit) .words))) ⌝ }
+        ensures writes { λ r. ⌜ Writes (elements unpacked (now (now (self .entry) .words))) n x r
+            (elements unpacked (now (now (self .exit) .words))) ⌝ }
         ensures lender { λ _. ⌜ name (now (self .exit) .words) ∷ [] ≡ name (now (self .entry) .words) ∷ [] ⌝ }
         ensures words { λ r. ⌜ now (now (self .exit) .words) ≡ rewritten r n (packed x) (now (now (self .entry) .words)) ⌝ }
     {

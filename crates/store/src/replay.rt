@@ -25,7 +25,8 @@ pub fn perform<S: Store>(store: &mut S, access: Access<S::Item>) -> Answer<S::It
 
 // Performs the accesses in their order, as far as there are places for the answers.
 pub fn replay<S: Store>(store: &mut S, accesses: &[Access<S::Item>], places: &mut [Answer<S::Item>])
-    ensures { λ _. ⌜ Replayed S·Store (now (store .entry)) (now (store .exit)) (now (accesses .entry)) (now (places .entry)) (now (places .exit)) ⌝ }
+    ensures { λ _. ⌜ Replayed S·Store (now (store .entry)) (now (store .exit)) (now (accesses .entry))
+        (now (places .entry)) (now (places .exit)) ⌝ }
 {
     let count = accesses.len().min(places.len());
     for i in 0..count {

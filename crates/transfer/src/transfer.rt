@@ -34,7 +34,8 @@ fn value_or_null<E: Element>(values: &[E], i: usize) -> E
 // Reads cells into the first places, as far as there are places, and tells how many it filled.
 pub fn gather<S: Store>(store: &mut S, cells: &[u8], places: &mut [S::Item]) -> usize
     ensures store { λ _. ⌜ Unaltered S·Store (now (store .entry)) (now (store .exit)) ⌝ }
-    ensures places { λ r. ⌜ Gathered (Item·Element .blank) (S·Store .cells (now (store .entry))) (cellList (now (cells .entry))) (now (places .entry)) (now (places .exit)) r ⌝ }
+    ensures places { λ r. ⌜ Gathered (Item·Element .blank) (S·Store .cells (now (store .entry))) (cellList (now (cells .entry)))
+        (now (places .entry)) (now (places .exit)) r ⌝ }
 {
     let many = count(cells).min(places.len());
     for i in 0..many {
@@ -45,9 +46,11 @@ pub fn gather<S: Store>(store: &mut S, cells: &[u8], places: &mut [S::Item]) -> 
 
 // Writes values to cells, from the last place to the first, so that of a cell named twice the earlier place counts.
 pub fn scatter<S: Store>(store: &mut S, cells: &[u8], values: &[S::Item])
-    ensures { λ _. ⌜ Scattered S·Store Item·Element (now (store .entry)) (now (store .exit)) (cellList (now (cells .entry))) (now (values .entry)) ⌝ }
+    ensures { λ _. ⌜ Scattered S·Store Item·Element (now (store .entry)) (now (store .exit))
+        (cellList (now (cells .entry))) (now (values .entry)) ⌝ }
 {
-    for i in (0..count(cells)).rev() {
+    let named = count(cells);
+    for i in (0..named).rev() {
         let _ = store.write(cell(cells, i), value_or_null(values, i));
     }
 }

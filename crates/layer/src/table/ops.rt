@@ -76,19 +76,32 @@ impl Table {
         }
     }
 
+    // Holds w in the place of its cell's write.
+    fn rewrite(&mut self, i: usize, w: HeldWrite)
+        requires { ⌜ HeldAt (w .cell) i (heldIn (now self)) ⌝ }
+        ensures { λ _. ⌜ heldIn (now (self .exit)) ≡ placed (heldIn (now (self .entry))) w ⌝ }
+    {
+        self.writes[i] = w;
+    }
+
+    // Holds w as the newest.
+    fn append(&mut self, w: HeldWrite)
+        requires absent { ⌜ absent (w .cell) (heldIn (now self)) ≡ true ⌝ }
+        requires room { ⌜ length (heldIn (now self)) < 16 ⌝ }
+        ensures { λ _. ⌜ heldIn (now (self .exit)) ≡ placed (heldIn (now (self .entry))) w ⌝ }
+    {
+        self.writes[self.count] = w;
+        self.count += 1;
+    }
+
     // Holds w in the place of its cell's write, or as the newest, for which there has to be room.
     pub(crate) fn put(&mut self, w: HeldWrite)
         requires { ⌜ (absent (w .cell) (heldIn (now self)) ≡ true → length (heldIn (now self)) < 16) ⌝ }
         ensures { λ _. ⌜ heldIn (now (self .exit)) ≡ placed (heldIn (now (self .entry))) w ⌝ }
     {
         match self.find(w.cell) {
-            Some(i) => {
-                self.writes[i] = w;
-            }
-            None => {
-                self.writes[self.count] = w;
-                self.count += 1;
-            }
+            Some(i) => self.rewrite(i, w),
+            None => self.append(w),
         }
     }
 

@@ -27,7 +27,8 @@ impl SaveRow {
 
 // The first 16 swapped cells take the elements of a row; cells past these are left alone.
 pub fn swap_in<S: Store>(store: &mut S, swaps: &[usize], row: SaveRow)
-    ensures { λ _. ⌜ Scattered S·Store Item·Element (now (store .entry)) (now (store .exit)) (take 16 (now (swaps .entry))) (rowOf (Item·Element .unpacked) row) ⌝ }
+    ensures { λ _. ⌜ Scattered S·Store Item·Element (now (store .entry)) (now (store .exit))
+        (take 16 (now (swaps .entry))) (rowOf (Item·Element .unpacked) row) ⌝ }
 {
     let many = swaps.len().min(16);
     for i in (0..many).rev() {
@@ -45,8 +46,8 @@ pub fn swap_out<S: Store>(store: &mut S, swaps: &[usize]) -> SaveRow
         first: 0,
         second: 0,
     }; 16];
-    let many = swaps.len().min(16);
-    for i in 0..many {
+    let taken = swaps.len().min(16);
+    for i in 0..taken {
         words[i] = read_or_null(store, swaps[i]).pack();
     }
     SaveRow { words }

@@ -16,5 +16,8 @@ loop-i-again g c = (
 
 pub returns : need.returns
 returns g c =
-    let e = going-end (g .S·Store .cells (c .args .store .now)) (g .S·Store .cells (c .loop-i .store)) (c .args .accesses .now) (c .args .places .now) (c .loop-i .places) (c .loop-i .i) (omega arith) (c .loop-i .inv .0) in
-    record { answered = e .0; cells = e .1; lender = c .loop-i .inv .1 }
+    record {
+      cells = going-end (g .S·Store .cells (c .args .store .now)) (g .S·Store .cells (c .loop-i .store)) (c .args .accesses .now) (c .args .places .now)
+          (c .loop-i .places) (c .loop-i .i) (omega arith) (c .loop-i .inv .0);
+      lender = c .loop-i .inv .1;
+    }

@@ -9,7 +9,7 @@ use Rattle.transfer.proofs.transfer.scatter.Needs as need
 
 pub loop-i-holds : need.loop-i-holds
 loop-i-holds g c =
-    (stored-none (g .Item·Element .blank) (cellList (c .args .cells .now)) (c .args .values .now) (g .S·Store .cells (c .args .store .now)) (c .count-i .result) (omega arith), refl)
+    (stored-none (g .Item·Element .blank) (cellList (c .args .cells .now)) (c .args .values .now) (g .S·Store .cells (c .args .store .now)) _ (omega arith), refl)
 
 pub loop-i-again : need.loop-i-again
 loop-i-again g c =

@@ -12,7 +12,7 @@ use Rattle.transfer.proofs.row.swap.swap_in.Needs as need
 pub loop-i-holds : need.loop-i-holds
 loop-i-holds g c =
     let sw = take 16 (c .args .swaps .now) in (
-      stored-none (g .Item·Element .blank) sw (rowOf (g .Item·Element .unpacked) (c .args .row)) (g .S·Store .cells (c .args .store .now)) (c .min-many .result)
+      stored-none (g .Item·Element .blank) sw (rowOf (g .Item·Element .unpacked) (c .args .row)) (g .S·Store .cells (c .args .store .now)) _
           (omega (arith, length-take 16 (c .args .swaps .now))),
       refl,
     )
