@@ -9,7 +9,7 @@ use lib.ListN.{length}
 use Rattle.std.specs.declared.result.Result.{Result}
 use Rattle.std.specs.declared.result.Result.the-variants.{Ok, Err}
 use Rattle.std.proofs.shelf.Tests.{cases-order, both-ways}
-use Rattle.command.specs.Cells.{cellList}
+use Rattle.cells.specs.Cells.{cellList}
 use Rattle.command.specs.Shape.{byteAt, kindOf, known, argBytes, resultBytes}
 use Rattle.command.specs.Order.{work, instruct, send, receive, asked}
 use Rattle.command.specs.Decoding.{Lowest, Asks, Decodes, Cases}

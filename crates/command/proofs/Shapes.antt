@@ -10,11 +10,11 @@ use lib.Dec.{leb, ltb, eqb}
 use lib.ListN.{length, take, drop, length-take}
 use Rattle.std.proofs.shelf.Tests.{cases-lt, cases-eq, cases-order, cases-bool, le-leb, lt-leb, lt-ltb, le-ltb, ne-eqb, eq-eqb}
 use Rattle.std.proofs.shelf.Ways.{tells}
-use Rattle.command.specs.Cells.{cellList}
+use Rattle.cells.specs.Cells.{cellList}
 use Rattle.command.specs.Shape.{byteAt, kindOf, known, takesPort, argLimit, resultLimit, argBytes, resultBytes, largest, most, Fault}
 use Rattle.command.specs.Order.{Order, malformed, restore, save, work, instruct, send, receive, asked, shaped, decoded, ordered}
 use Rattle.command.specs.Decoding.{Uses, code, port, argCount, resultCount, argCell, resultCell, Shaped, Lowest}
-use Rattle.command.proofs.CellLists.{length-cells}
+use Rattle.cells.proofs.CellLists.{length-cells}
 
 -- the limits of the counts
 

@@ -6,7 +6,7 @@ use lib.ListN.{length}
 use Rattle.std.specs.declared.result.Result.{Result}
 use Rattle.std.specs.declared.result.Result.the-variants.{Ok, Err}
 use Rattle.std.specs.Written.{decimal}
-use Rattle.command.specs.Cells.{cellList}
+use Rattle.cells.specs.Cells.{cellList}
 use Rattle.command.specs.Order.{Order, malformed, restore, save, work, instruct, send, receive}
 use Rattle.command.specs.declared.command.Command.{Command}
 use Rattle.command.specs.declared.command.Command.the-variants.{Restore, Save, Instruct, Send, Receive}

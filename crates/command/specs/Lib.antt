@@ -1,4 +1,3 @@
-pub mod Cells
 pub mod Shape
 pub mod Order
 pub mod Kinds

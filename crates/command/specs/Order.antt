@@ -4,7 +4,7 @@ use mathlib.Core.Bool.{cond}
 use mathlib.Core.List.{List}
 use lib.Dec.{eqb, leb}
 use lib.ListN.{length}
-use Rattle.command.specs.Cells.{cellList}
+use Rattle.cells.specs.Cells.{cellList}
 use Rattle.command.specs.Shape.{byteAt, kindOf, known, most, argBytes, resultBytes}
 
 -- work with cells and ports: a code or a port, then argument cells, then result cells

@@ -1,5 +1,4 @@
 // Commands as a record holds them, and the log record that answers one.
-pub mod cell;
 pub mod command;
 pub mod decode;
 pub mod kind;

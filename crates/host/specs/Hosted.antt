@@ -13,7 +13,7 @@ use Rattle.instruction.specs.declared.set.InstructionSet.{Ghosts as Sets}
 use Rattle.instruction.specs.Outcomes.{faultNumber}
 use Rattle.store.specs.declared.store.Store.{Ghosts as Stores}
 use Rattle.sheet.specs.declared.sheet.Sheet.{Sheet}
-use Rattle.sheet.specs.Cells.{member}
+use Rattle.cells.specs.Cells.{member}
 use Rattle.sheet.specs.View.{rowsOf}
 use Rattle.port.specs.declared.ports.Ports.{Ports}
 use Rattle.port.specs.Sets.{sendsOf, receivesOf}

@@ -7,7 +7,7 @@ use Rattle.std.specs.declared.option.Option.{Option}
 use Rattle.std.specs.declared.option.Option.the-variants.{Some, None}
 use Rattle.element.specs.declared.words.Words.{Words}
 use Rattle.transfer.specs.declared.row.SaveRow.{SaveRow}
-use Rattle.transfer.specs.Lists.{beside}
+use Rattle.cells.specs.Cells.{beside}
 use Rattle.transfer.specs.Rows.{rowOf}
 use Rattle.isolation.specs.Machine.{Turn, closed, opened}
 use Rattle.isolation.specs.Request.{Request}

@@ -1,20 +1,26 @@
 ghost use mathlib.Core.Path.{_≡_};
 ghost use Prim.Native.Nat.{ℕ, _≤_, _<_};
 ghost use lib.ListN.{length};
-ghost use Rattle.command.specs.Cells.{cellList};
+ghost use Rattle.cells.specs.Cells.{cellList};
 ghost use Rattle.sheet.specs.Rows.{touchable};
 ghost use Rattle.sheet.specs.View.{rowsOf};
 ghost use Rattle.isolation.specs.Check.{Verdict, each};
 ghost use Rattle.isolation.specs.Machine.{heldBy, isOpen};
 ghost use Rattle.host.specs.Parts.{turnOf};
 ghost use Rattle.host.specs.Steps.{then};
-use command::cell::cell;
-use command::cell::count;
+use cells::list::cell;
+use cells::list::count;
 use command::refusal::Refusal;
 use sheet::sheet::Sheet;
 
 // Refusal 12 for the first cell without the right; its place is counted from `from`.
-pub(crate) fn first_without(sheet: &Sheet, part: u8, cells: &[u8], writing: bool, from: u8) -> Option<Refusal>
+pub(crate) fn first_without(
+    sheet: &Sheet,
+    part: u8,
+    cells: &[u8],
+    writing: bool,
+    from: u8,
+) -> Option<Refusal>
     requires part { ⌜ part < 8 ⌝ }
     requires few { ⌜ length (cellList (now cells)) ≤ 8 ⌝ }
     requires from { ⌜ from ≤ 8 ⌝ }

@@ -7,7 +7,7 @@ use mathlib.Core.List.{List, [], _∷_}
 use lib.Dec.{eqb, ltb}
 use Rattle.std.proofs.shelf.Tests.{eq-eqb, ne-eqb, lt-ltb, ltb-true, cases-eq, and-parts}
 use Rattle.part.specs.Sets.{bit}
-use Rattle.sheet.specs.Cells.{member, Within}
+use Rattle.cells.specs.Cells.{member, Within}
 use Rattle.command.specs.Order.{Work, instruct, send, receive, Order, malformed, restore, save, work}
 use Rattle.isolation.specs.Making.{Making}
 use Rattle.isolation.specs.Check.{Verdict, pass, fail, when, each, may, check, readable, writable, sender, receiver}

@@ -8,13 +8,13 @@ use mathlib.Core.List.{List, [], _∷_, map}
 use lib.Dec.{eqb, ltb}
 use Rattle.std.proofs.shelf.Tests.{ne-eqb, ltb-true, cond-false, and-parts, or-left, or-right, or-from, both-ways}
 use Rattle.part.specs.Sets.{bit}
-use Rattle.sheet.specs.Cells.{member}
+use Rattle.cells.specs.Cells.{member, beside}
 use Rattle.queue.specs.Queue.{Queue, appended, first, taken}
 use Rattle.command.specs.Order.{Work, instruct, send, receive}
 use Rattle.isolation.specs.Making.{Making, Outcome, fault, gives}
 use Rattle.isolation.specs.Request.{done}
 use Rattle.isolation.specs.Check.{pass, may, readable, writable, touchable, sender, receiver}
-use Rattle.isolation.specs.Effect.{beside, put, Effect, settle, effect}
+use Rattle.isolation.specs.Effect.{put, Effect, settle, effect}
 use Rattle.isolation.proofs.Tables.{cond-two, change-there}
 use Rattle.isolation.proofs.Checks.{when-pass, Every, each-pass}
 

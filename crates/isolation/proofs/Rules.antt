@@ -9,14 +9,14 @@ use mathlib.Core.List.{List, [], _∷_, _++_, map}
 use lib.Dec.{eqb, ltb}
 use lib.ListN.{length, getD, drop, length-append, length-drop}
 use Rattle.std.proofs.shelf.Tests.{eqb-true, eq-eqb, ne-eqb, cond-true, cond-false, or-left, or-right, ltb-true, false≢true, true≢false, cases-eq, both-ways, and-parts, and-from}
-use Rattle.sheet.specs.Cells.{member}
+use Rattle.cells.specs.Cells.{member, beside}
 use Rattle.queue.specs.Queue.{Queue, empty, appended, taken}
 use Rattle.command.specs.Order.{Work, instruct, send, receive, Order, malformed, restore, save, work}
 use Rattle.isolation.specs.Tables.{replace, change}
 use Rattle.isolation.specs.Making.{Making, Outcome, fault, gives}
 use Rattle.isolation.specs.Request.{Request, whole, part, kind, turnKind, order, granted}
 use Rattle.isolation.specs.Check.{Verdict, pass, fail, check, writable}
-use Rattle.isolation.specs.Effect.{beside, put, Effect, settle, effect}
+use Rattle.isolation.specs.Effect.{put, Effect, settle, effect}
 use Rattle.isolation.specs.Machine.{State, made, isOpen, heldBy, act, step}
 use Rattle.isolation.specs.Boxes.{Boxes, boxAct}
 use Rattle.isolation.specs.History.{afterAll}

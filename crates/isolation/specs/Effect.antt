@@ -1,20 +1,13 @@
 -- What work does to the cells that it sees and to the queues. Assumes nothing.
 use Prim.Native.Nat.{ℕ}
 use mathlib.Core.Bool.{cond}
-use mathlib.Core.List.{List, [], _∷_, map}
-use lib.Dec.{eqb}
-use Rattle.sheet.specs.Cells.{member}
+use mathlib.Core.List.{List, map}
+use Rattle.cells.specs.Cells.{member, beside}
 use Rattle.queue.specs.Queue.{Queue, appended, first, taken}
 use Rattle.command.specs.Order.{Work, instruct, send, receive}
 use Rattle.isolation.specs.Tables.{change}
 use Rattle.isolation.specs.Making.{Making, Outcome, fault, gives}
 use Rattle.isolation.specs.Request.{Answer, refused, done}
-
--- what stands beside the first mention of cell n, of values that stand beside cells; z where the values run short
-abbrev pub beside : {E : Type 0} → E → List ℕ → List E → ℕ → E
-beside z [] vs n = z
-beside z (m ∷ ns) [] n = z
-beside z (m ∷ ns) (v ∷ vs) n = cond (eqb n m) v (beside z ns vs n)
 
 -- result cell i takes value i, or null where the values run short; of a cell named twice the earlier place counts
 abbrev pub put : {E : Type 0} → E → List ℕ → List E → (ℕ → E) → ℕ → E

@@ -5,7 +5,7 @@ use mathlib.Core.Path.{_≡_}
 use mathlib.Core.Bool.{true, false}
 use mathlib.Core.List.{List}
 use lib.ListN.{length, getD}
-use Rattle.sheet.specs.Cells.{member}
+use Rattle.cells.specs.Cells.{member}
 use Rattle.queue.specs.Queue.{empty}
 use Rattle.isolation.specs.Making.{Making}
 use Rattle.isolation.specs.Request.{Request, part, turnCall, granted}

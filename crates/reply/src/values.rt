@@ -11,7 +11,10 @@ fn words_at<E: Element>(values: &[E], i: usize) -> Words
     if i < values.len() {
         values[i].pack()
     } else {
-        Words { first: 0, second: 0 }
+        Words {
+            first: 0,
+            second: 0,
+        }
     }
 }
 
@@ -26,6 +29,15 @@ pub fn values<E: Element>(missed: u8, values: &[E]) -> Answer
     Answer::Values {
         missed,
         count: values.len().min(4) as u8,
-        words: [a.first, a.second, b.first, b.second, c.first, c.second, d.first, d.second],
+        words: [
+            a.first,
+            a.second,
+            b.first,
+            b.second,
+            c.first,
+            c.second,
+            d.first,
+            d.second,
+        ],
     }
 }

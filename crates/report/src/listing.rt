@@ -1,5 +1,5 @@
-use command::cell::cell;
-use command::cell::count;
+use cells::list::cell;
+use cells::list::count;
 use command::command::Command;
 use command::decode::decode;
 use command::malformed::MalformedDisplay;

@@ -13,7 +13,7 @@ use Rattle.std.proofs.shelf.Tests.{cases-eq, or-cases, or-left, or-right, both-
 use Rattle.part.specs.Sets.{bit}
 use Rattle.part.specs.Rows.{exclusive}
 use Rattle.part.proofs.Ones.{apart}
-use Rattle.sheet.specs.Cells.{member}
+use Rattle.cells.specs.Cells.{member}
 use Rattle.sheet.specs.Rows.{Rows, touchable}
 use Rattle.sheet.specs.Laws.{Kept}
 use Rattle.sheet.specs.Sound.{Exclusive, FrontZero, FrontWithin, FrontDistinct}

@@ -11,7 +11,7 @@ use lib.Dec.{eqb}
 use lib.ListN.{length, getD, take, drop}
 use Rattle.std.proofs.shelf.Lists.{drop-more, drop-all, getD-take, length-take-le}
 use Rattle.std.proofs.shelf.Tests.{eq-eqb, ne-eqb, cases-bool, cases-eq, both-ways, or-left, or-right, false≢true}
-use Rattle.sheet.specs.Cells.{member, Distinct, Within}
+use Rattle.cells.specs.Cells.{member, Distinct, Within}
 use Rattle.sheet.specs.Sound.{FrontWithin, FrontDistinct}
 
 module _ (c : ℕ) (xs : List ℕ) (n : ℕ) (fits : n ≤ length xs) where

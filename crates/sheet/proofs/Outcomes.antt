@@ -14,7 +14,7 @@ use Rattle.part.specs.Sets.{bit}
 use Rattle.part.specs.Rows.{exclusive, holds, Another, OneMore}
 use Rattle.part.proofs.Bits.{bit-or, bit-single}
 use Rattle.part.proofs.Ones.{one-more}
-use Rattle.sheet.specs.Cells.{member}
+use Rattle.cells.specs.Cells.{member}
 use Rattle.sheet.specs.Laws.{TakenIs16}
 use Rattle.sheet.specs.Rows.{Rows, readRow, writeRow, blank, made, grantedRead, grantedWrite, grantedRows, grantNumber, granted, swapped}
 

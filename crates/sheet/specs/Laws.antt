@@ -5,7 +5,7 @@ use mathlib.Core.Bool.{true, false, _||_}
 use mathlib.Core.Logic.{_⊎_}
 use lib.ListN.{length}
 use Rattle.part.specs.Rows.{Another}
-use Rattle.sheet.specs.Cells.{member, Within, Distinct}
+use Rattle.cells.specs.Cells.{member, Within, Distinct}
 use Rattle.sheet.specs.Rows.{Rows, readRow, writeRow, touchable}
 
 -- what holds of every sheet

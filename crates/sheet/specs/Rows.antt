@@ -7,7 +7,7 @@ use lib.ListN.{getD, set, length, replicate}
 use lib.Bits.{bitOr}
 use Rattle.part.specs.Sets.{bit}
 use Rattle.part.specs.Rows.{exclusive}
-use Rattle.sheet.specs.Cells.{member}
+use Rattle.cells.specs.Cells.{member}
 
 -- the read row and the write row of each cell, how many cells there are, and the swapped ones in the order of swapping
 pub record Rows : Type 0 where

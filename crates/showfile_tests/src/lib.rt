@@ -120,10 +120,10 @@ mod tests {
             return Err(Fail::new("no instruct"));
         };
         check_eq(code, 6)?;
-        check_eq(command::cell::count(args), 1)?;
-        check_eq(command::cell::cell(args, 0), 256)?;
-        check_eq(command::cell::count(results), 2)?;
-        check_eq(command::cell::cell(results, 1), 4)
+        check_eq(cells::list::count(args), 1)?;
+        check_eq(cells::list::cell(args, 0), 256)?;
+        check_eq(cells::list::count(results), 2)?;
+        check_eq(cells::list::cell(results, 1), 4)
     }
 
     #[test]

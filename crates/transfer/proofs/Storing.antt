@@ -10,7 +10,8 @@ use lib.ListN.{length, getD, set, drop, length-set}
 use lib.Seq.{drop-cons}
 use Rattle.std.proofs.shelf.Lists.{drop-all, getD-past, getD-set-same, getD-set-other}
 use Rattle.std.proofs.shelf.Tests.{cases-lt, cases-eq, eq-eqb, ne-eqb, lt-ltb, le-ltb}
-use Rattle.transfer.specs.Lists.{member, beside, stored}
+use Rattle.cells.specs.Cells.{member, beside}
+use Rattle.transfer.specs.Lists.{stored}
 
 module _ {E : Type 0} (z : E) where
   pub stored-none : (ns : List ℕ) (vs xs : List E) (i : ℕ) → length ns ≤ i → xs ≡ stored z (drop i ns) (drop i vs) xs

@@ -9,7 +9,7 @@ use lib.Dec.{eqb}
 use lib.ListN.{length, getD, set, take, drop, replicate}
 use Rattle.std.proofs.shelf.Lists.{take-append-drop, take-more-set, take-all, take-map, map-more, map-append, drop-set-lt, drop-drop, drop-all, drop-replicate, length-map}
 use Rattle.std.proofs.shelf.Tests.{cases-lt, cases-eq, eq-eqb, ne-eqb}
-use Rattle.transfer.specs.Lists.{member, beside}
+use Rattle.cells.specs.Cells.{member, beside}
 
 module _ {X : Type 0} where
   -- one more place is filled, and the later places stay

@@ -8,7 +8,8 @@ use Rattle.element.specs.Pairs.{pair}
 use Rattle.element.specs.declared.element.Element.{Ghosts as Elements}
 use Rattle.element.specs.declared.words.Words.{Words}
 use Rattle.transfer.specs.declared.row.SaveRow.{SaveRow}
-use Rattle.transfer.specs.Lists.{member, elementsAt, beside}
+use Rattle.cells.specs.Cells.{member, beside}
+use Rattle.transfer.specs.Lists.{elementsAt}
 
 -- the elements of a row
 abbrev pub rowOf : {E : Type 0} → (Words → E) → SaveRow → List E

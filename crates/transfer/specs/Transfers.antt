@@ -7,7 +7,8 @@ use lib.Dec.{ltb}
 use lib.ListN.{length, getD, take, drop}
 use Rattle.element.specs.declared.element.Element.{Ghosts as Elements}
 use Rattle.store.specs.declared.store.Store.{Ghosts as Stores}
-use Rattle.transfer.specs.Lists.{member, elementsAt, beside, stored}
+use Rattle.cells.specs.Cells.{member, beside}
+use Rattle.transfer.specs.Lists.{elementsAt, stored}
 
 -- store x, which became y, means what it meant
 pub record Unaltered {S E : Type 0} (st : Stores S E) (x y : S) : Type 0 where

@@ -1,4 +1,3 @@
 // Moving elements between a store and lists: a command's cells, and the rows of swapped cells.
-pub mod cell;
 pub mod row;
 pub mod transfer;

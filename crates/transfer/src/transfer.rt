@@ -2,10 +2,10 @@ ghost use mathlib.Core.Path.{_≡_};
 ghost use mathlib.Core.List.{List};
 ghost use Prim.Native.Nat.{ℕ};
 ghost use lib.ListN.{getD};
-ghost use Rattle.command.specs.Cells.{cellList};
+ghost use Rattle.cells.specs.Cells.{cellList};
 ghost use Rattle.transfer.specs.Transfers.{Unaltered, Gathered, Scattered};
-use crate::cell::cell;
-use crate::cell::count;
+use cells::list::cell;
+use cells::list::count;
 use element::element::Element;
 use store::store::Store;
 

@@ -19,7 +19,11 @@ use transfer::row::SaveRow;
 fn misfit(cells: usize, size: usize) -> Option<Refusal>
     ensures { λ r. ⌜ r ≡ cond (eqb cells size) None (Some refusal.Size) ⌝ }
 {
-    if cells == size { None } else { Some(Refusal::Size) }
+    if cells == size {
+        None
+    } else {
+        Some(Refusal::Size)
+    }
 }
 
 impl<S: Store, I: InstructionSet<S::Item>> Host<S, I> {
@@ -49,10 +53,19 @@ impl<S: Store, I: InstructionSet<S::Item>> Host<S, I> {
 
     // The store, given back.
     pub fn into_store(self) -> S
-        where I: Drop
+    where
+        I: Drop,
         ensures { λ r. ⌜ r ≡ self .store ⌝ }
     {
-        let Host { store, set, sheet, ports, rows: _, turn: _, queues } = self;
+        let Host {
+            store,
+            set,
+            sheet,
+            ports,
+            rows: _,
+            turn: _,
+            queues,
+        } = self;
         drop(set);
         drop(sheet);
         drop(ports);

@@ -5,7 +5,7 @@ ghost use lib.Bits.{bitOr};
 ghost use lib.Dec.{ltb};
 ghost use lib.ListN.{length, getD};
 ghost use Rattle.part.specs.Sets.{parts};
-ghost use Rattle.sheet.specs.Cells.{member, Within, Distinct};
+ghost use Rattle.cells.specs.Cells.{member, Within, Distinct};
 ghost use Rattle.sheet.specs.Laws.{Kept, TakenIs16};
 ghost use Rattle.sheet.specs.Rows.{blank, granted, made, swapped, touchable};
 ghost use Rattle.sheet.specs.View.{outcome, rowsOf};

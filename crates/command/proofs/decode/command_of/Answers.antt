@@ -3,7 +3,7 @@ use mathlib.Core.List.{List}
 use Prim.Native.Nat.{ℕ, _≤_}
 use native.Mathlib.Omega.{arith}
 use lib.ListN.{length}
-use Rattle.command.specs.Cells.{cellList}
+use Rattle.cells.specs.Cells.{cellList}
 use Rattle.command.specs.Shape.{byteAt, kindOf, argLimit}
 use Rattle.command.specs.Kinds.{kindNumber}
 use Rattle.command.specs.Order.{work, instruct, send, receive}

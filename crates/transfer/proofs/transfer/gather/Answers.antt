@@ -3,7 +3,7 @@ use mathlib.Core.Path.{_≡_, refl, ap, ap₂, _∙_}
 use mathlib.Core.List.{List}
 use native.Mathlib.Omega.{arith}
 use lib.ListN.{length, getD}
-use Rattle.command.specs.Cells.{cellList}
+use Rattle.cells.specs.Cells.{cellList}
 use Rattle.transfer.proofs.Taking.{taken-more, left-more, taken-end}
 use Rattle.transfer.proofs.transfer.gather.Needs as need
 

@@ -1,6 +1,6 @@
 use mathlib.Core.Path.{_≡_}
 use lib.ListN.{take, drop}
-use Rattle.command.specs.Cells.{cellList}
+use Rattle.cells.specs.Cells.{cellList}
 use Rattle.transfer.specs.Lists.{elementsAt}
 use Rattle.transfer.specs.Transfers.{Unaltered}
 use Rattle.transfer.proofs.transfer.gather.Given as given

@@ -3,7 +3,7 @@ use mathlib.Core.Path.{_≡_, refl, sym, ap, _∙_}
 use mathlib.Core.List.{List}
 use native.Mathlib.Omega.{arith}
 use lib.ListN.{length, set, getD}
-use Rattle.command.specs.Cells.{cellList}
+use Rattle.cells.specs.Cells.{cellList}
 use Rattle.transfer.proofs.Storing.{stored-none, stored-more, stored-all, each-all}
 use Rattle.transfer.proofs.transfer.scatter.Needs as need
 

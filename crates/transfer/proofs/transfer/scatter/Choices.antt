@@ -1,6 +1,6 @@
 use mathlib.Core.Path.{_≡_}
 use lib.ListN.{drop}
-use Rattle.command.specs.Cells.{cellList}
+use Rattle.cells.specs.Cells.{cellList}
 use Rattle.transfer.specs.Lists.{stored}
 use Rattle.transfer.proofs.transfer.scatter.Given as given
 

@@ -1,6 +1,6 @@
 use mathlib.Core.Path.{_≡_}
 use lib.ListN.{take, drop}
-use Rattle.sheet.specs.Cells.{member}
+use Rattle.cells.specs.Cells.{member}
 use Rattle.sheet.proofs.sheet.Sheet.is_swapped.Given as given
 
 abbrev pub Inv-loop-i : given.InvT-loop-i

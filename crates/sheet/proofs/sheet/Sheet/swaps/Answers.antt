@@ -3,7 +3,7 @@ use mathlib.Core.List.{List}
 use Prim.Native.Nat.{ℕ, _≤_, _-_}
 use native.Mathlib.Omega.{arith}
 use lib.ListN.{length, take}
-use Rattle.sheet.specs.Cells.{Within, Distinct}
+use Rattle.cells.specs.Cells.{Within, Distinct}
 use Rattle.sheet.specs.Laws.{Kept}
 use Rattle.sheet.specs.View.{rowsOf}
 use Rattle.sheet.proofs.Keeps.{kept}

@@ -4,7 +4,7 @@ use native.Mathlib.Omega.{arith}
 use mathlib.Core.Path.{_≡_, refl}
 use mathlib.Core.List.{List, [], _∷_}
 use lib.ListN.{length, getD}
-use Rattle.command.specs.Cells.{cellList}
+use Rattle.cells.specs.Cells.{cellList}
 
 pub length-cells : (bs : List ℕ) → length (cellList bs) ≡ length bs / 2
 length-cells [] = omega arith

@@ -1,6 +1,6 @@
 use mathlib.Core.Path.{sym}
-use Rattle.transfer.proofs.Bytes.{length-cells}
-use Rattle.transfer.proofs.cell.count.Needs as need
+use Rattle.cells.proofs.CellLists.{length-cells}
+use Rattle.cells.proofs.list.count.Needs as need
 
 pub returns : need.returns
 returns c = sym (length-cells (c .args .bytes .now))

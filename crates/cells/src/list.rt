@@ -1,6 +1,6 @@
 ghost use mathlib.Core.Path.{_≡_};
 ghost use lib.ListN.{length, getD};
-ghost use Rattle.command.specs.Cells.{cellList};
+ghost use Rattle.cells.specs.Cells.{cellList};
 
 // How many cell numbers a run of bytes holds.
 pub fn count(bytes: &[u8]) -> usize

@@ -4,9 +4,9 @@ use native.Mathlib.Omega.{arith}
 use native.Mathlib.Numerals.{add-one}
 use lib.ListN.{length, getD}
 use Rattle.std.proofs.shelf.Lists.{getD-past}
-use Rattle.command.specs.Cells.{cellList}
-use Rattle.command.proofs.CellLists.{length-cells, cell-at}
-use Rattle.command.proofs.cell.cell.Needs as need
+use Rattle.cells.specs.Cells.{cellList}
+use Rattle.cells.proofs.CellLists.{length-cells, cell-at}
+use Rattle.cells.proofs.list.cell.Needs as need
 
 pub returns-then-i-bytes : need.returns-then-i-bytes
 returns-then-i-bytes c = sym (getD-past (cellList (c .args .bytes .now)) (c .args .i) 0 (omega (arith, length-cells (c .args .bytes .now))))
