@@ -35,7 +35,7 @@ makingFrom st el is store set sheet ports = makingWith (el .blank) (is .meaning 
 -- size. Every making isolates its parts, and an accepted one leads, with no request yet, to its host.
 pub record Makes {S I E : Type 0} (st : Stores S E) (el : Elements E) (is : Sets I E) (store : S) (set : I) (sheet : Sheet) (ports : Ports) (r : Made S I E) : Type 0 where
   pub refusal : r .refusal ≡ cond (eqb (length (st .cells store)) (sheet .size)) None (Some refusal.Size)
-  pub store : r .host .store ≡ store
+  pub kept : r .host .store ≡ store
   pub making : makingOf el is (r .host) (at (el .blank) (st .cells store)) ≡ makingFrom st el is store set sheet ports
   pub state : stateOf st el (r .host) ≡ made (makingFrom st el is store set sheet ports)
   pub isolated : Isolated (makingFrom st el is store set sheet ports)
@@ -55,6 +55,6 @@ pub record Commanded {S I E : Type 0} (st : Stores S E) (el : Elements E) (is : 
   pub led : (k : Making E) (h : List Request) → Led st el is k h x → Led st el is k (h ++ (c ∷ [])) y
 
 -- the two scratch lists after a command: full of null elements, or untouched where one was too short
-pub record Cleared {E : Type 0} (z : E) (c : Request) (args args′ results results′ : List E) : Type 0 where
-  pub args : args′ ≡ leftNull (roomy c) z args
-  pub results : results′ ≡ leftNull (roomy c) z results
+pub record Cleared {E : Type 0} (z : E) (c : Request) (xs xs′ rs rs′ : List E) : Type 0 where
+  pub args : xs′ ≡ leftNull (roomy c) z xs
+  pub results : rs′ ≡ leftNull (roomy c) z rs

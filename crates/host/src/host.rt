@@ -6,7 +6,9 @@ use sheet::sheet::Sheet;
 use store::store::Store;
 use transfer::row::SaveRow;
 
-pub mod making;
+mod act;
+mod execute;
+mod making;
 
 // A host: a cell store and an instruction set of one kind of element, the sheet and the port sets, and the state that the parts
 // share. It holds all of it by value.
