@@ -9,8 +9,10 @@ pub trait Element: Copy {
     // The null element.
     ghost blank: { Self };
 
+    // The two words of an element.
     ghost packed: { Self → Words };
 
+    // The element of any two words.
     ghost unpacked: { Words → Self };
 
     // Unpacking a packing gives the element back.
@@ -22,12 +24,15 @@ pub trait Element: Copy {
     // Packed words fit 32 bits.
     law narrow: { (x : Self) → (packed x .first < 2 ^ 32) × (packed x .second < 2 ^ 32) };
 
+    // Gives the null element.
     fn null() -> Self
         ensures { λ r. ⌜ r ≡ blank ⌝ };
 
+    // Packs an element.
     fn pack(self) -> Words
         ensures { λ r. ⌜ r ≡ packed self ⌝ };
 
+    // Unpacks two words, whatever they are.
     fn unpack(words: Words) -> Self
         ensures { λ r. ⌜ r ≡ unpacked words ⌝ };
 }
