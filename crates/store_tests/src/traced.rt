@@ -12,7 +12,9 @@ pub struct Traced<S: Store> {
 }
 
 impl<S: Store> Traced<S> {
-    pub fn new(below: S) -> Traced<S> {
+    pub fn new(below: S) -> Traced<S>
+        ensures { λ r. ⌜ r .below ≡ below ⌝ }
+    {
         Traced {
             below,
             order: [0; 40],
