@@ -34,7 +34,7 @@ exclusive-of z f sheet ports m = record {
       (ap (λ (x : ℕ). getD (sheet .read) x 0) (sym (i .2)) ∙ sheet .unread (i .0) (i .1), ap (λ (x : ℕ). getD (sheet .write) x 0) (sym (i .2)) ∙ sheet .unwritten (i .0) (i .1));
 }
 
-shown : {E : Type 0} (p : E → Words) (k : Making E) → Exclusive k → (h : List Request) (c : Request) (r : LogRecord) → r ≡ recordOf p (entry c (answerAfter k h c)) → Shown p k h c r
+pub shown : {E : Type 0} (p : E → Words) (k : Making E) → Exclusive k → (h : List Request) (c : Request) (r : LogRecord) → r ≡ recordOf p (entry c (answerAfter k h c)) → Shown p k h c r
 shown p k ex h c r e =
     let i = isolated-answer k ex h c in
     record {
@@ -45,7 +45,7 @@ shown p k ex h c r e =
     }
 
 module _ {S I E : Type 0} (st : Stores S E) (el : Elements E) (is : Sets I E) (x : Host S I E) (k : Making E) (h : List Request) (led : Led st el is k h x) where
-  exclusive-led : Exclusive k
+  pub exclusive-led : Exclusive k
   exclusive-led = subst Exclusive (led .making) (exclusive-of (el .blank) (is .meaning (x .set)) (x .sheet) (x .ports) (k .cells))
 
   step-led : (c : Request) → hostStep (fitsOf st el x) (makingOf el is x (k .cells)) c (stateOf st el x) ≡ step k c (stateAfter k h)

@@ -1,0 +1,3 @@
+// Runs of show files on a host.
+pub mod refusal;
+pub mod show;
