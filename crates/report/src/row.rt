@@ -1,4 +1,5 @@
 // The table of a run: one row a command.
+ghost use mathlib.Core.Path.{_≡_};
 use crate::reason::kind_name;
 use crate::reason::reason;
 use command::kind::Kind;
@@ -11,15 +12,17 @@ use std::marker::PhantomData;
 // A log record as a row, its values as elements of this kind.
 #[derive(Drop)]
 pub struct Row<'a, E> {
-    entry: &'a LogRecord,
+    logged: &'a LogRecord,
     kind: PhantomData<E>,
 }
 
 impl<'a, E> Row<'a, E> {
     // The row of a record.
-    pub fn new(entry: &'a LogRecord) -> Row<'a, E> {
+    pub fn new(logged: &'a LogRecord) -> Row<'a, E>
+        ensures { λ r. ⌜ now (r .logged) ≡ now (logged .entry) ⌝ }
+    {
         Row {
-            entry,
+            logged,
             kind: PhantomData,
         }
     }
@@ -64,7 +67,7 @@ fn values<E: Element + fmt::Display, W: fmt::Write>(
 // Place, part, command, and the answer: the refusal with its reason, or what was missed and the values.
 pub impl<'a, E: Element + fmt::Display> fmt::Display for Row<'a, E> as RowDisplay {
     fn fmt<W: fmt::Write>(&self, f: &mut fmt::Formatter<W>) -> fmt::Result {
-        let r = self.entry;
+        let r = self.logged;
         let place = r.place;
         let part = r.part;
         let kind = kind_name(Kind::of(r.kind));
