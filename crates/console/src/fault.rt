@@ -1,4 +1,6 @@
 // Why the program ends with status 1.
+ghost use mathlib.Core.Path.{_≡_};
+ghost use Rattle.console.specs.declared.fault.Fault.the-variants.{Memory, Output};
 use report::reason::reason;
 use rig::problem::SetupError;
 use rig::problem::SetupErrorDisplay;
@@ -30,18 +32,24 @@ pub enum Fault {
 }
 
 pub impl From<AllocError> for Fault as FaultFromAlloc {
+    ghost converts = { λ _ r. r ≡ Memory };
+
     fn from(_e: AllocError) -> Fault {
         Fault::Memory
     }
 }
 
 pub impl<T: Drop> From<Refused<T>> for Fault as FaultFromRefused {
+    ghost converts = { λ _ r. r ≡ Memory };
+
     fn from(_e: Refused<T>) -> Fault {
         Fault::Memory
     }
 }
 
 pub impl From<io::Error> for Fault as FaultFromIo {
+    ghost converts = { λ e r. r ≡ Output e };
+
     fn from(e: io::Error) -> Fault {
         Fault::Output(e)
     }

@@ -1,6 +1,5 @@
 ghost use mathlib.Core.Path.{_≡_};
 ghost use Rattle.console.specs.Flags.{flagOf};
-
 use setup::pieces::is;
 
 // The options that stand before the files.

@@ -6,6 +6,7 @@ use report::row::RowDisplay;
 use std::fmt::Display;
 use std::io;
 use std::io::Write;
+use std::marker::PhantomData;
 
 // The headings of the rows.
 pub fn headings<W: Write>(out: &mut W) -> io::Result<()> {
@@ -15,7 +16,10 @@ pub fn headings<W: Write>(out: &mut W) -> io::Result<()> {
 // One row a record, its values as elements of this kind.
 pub fn rows<E: Element + Display, W: Write>(out: &mut W, log: &[LogRecord]) -> io::Result<()> {
     for r in log {
-        let row = Row::<E>::new(r);
+        let row = Row::<E> {
+            logged: r,
+            kind: PhantomData,
+        };
         writeln!(out, "{row}")?;
     }
     Ok(())

@@ -1,5 +1,4 @@
 // The table of a run: one row a command.
-ghost use mathlib.Core.Path.{_≡_};
 use crate::reason::kind_name;
 use crate::reason::reason;
 use command::kind::Kind;
@@ -12,20 +11,8 @@ use std::marker::PhantomData;
 // A log record as a row, its values as elements of this kind.
 #[derive(Drop)]
 pub struct Row<'a, E> {
-    logged: &'a LogRecord,
-    kind: PhantomData<E>,
-}
-
-impl<'a, E> Row<'a, E> {
-    // The row of a record.
-    pub fn new(logged: &'a LogRecord) -> Row<'a, E>
-        ensures { λ r. ⌜ now (r .logged) ≡ now (logged .entry) ⌝ }
-    {
-        Row {
-            logged,
-            kind: PhantomData,
-        }
-    }
+    pub logged: &'a LogRecord,
+    pub kind: PhantomData<E>,
 }
 
 // What a refusal is about: a byte of the record, a cell it names, or the fault of the set.

@@ -4,11 +4,11 @@ use setup::directive::Bottom;
 use setup::directive::ElementKind;
 use sheet::sheet::Sheet;
 
-pub mod ops;
+mod ops;
 
 // A setup as far as its lines were read.
 #[derive(Drop)]
-pub struct Draft {
+pub(crate) struct Draft {
     kind: Option<ElementKind>,
     store: Option<Bottom>,
     layers: Option<u8>,

@@ -37,10 +37,10 @@ word-first c (d ∷ ds) e =
     let e2 : letters (c ∷ d ∷ ds) ≡ suc (letters (d ∷ ds)) = ap (λ t. cond (not t) (suc (letters (d ∷ ds))) 0) e in
     ⊎-elim
     (λ (t : blank d ≡ true).
-      let m : letters (d ∷ ds) ≡ 0 = ap (λ b. cond (not b) (suc (letters ds)) 0) t in
-      e1 ∙ ap (λ b. cond (not b) (joined c W) ((c ∷ []) ∷ W)) t ∙ sym (ap (λ n. G (suc n)) m) ∙ sym (ap G e2))
+    let m : letters (d ∷ ds) ≡ 0 = ap (λ b. cond (not b) (suc (letters ds)) 0) t in
+    e1 ∙ ap (λ b. cond (not b) (joined c W) ((c ∷ []) ∷ W)) t ∙ sym (ap (λ n. G (suc n)) m) ∙ sym (ap G e2))
     (λ (f : blank d ≡ false).
-      e1 ∙ ap (λ b. cond (not b) (joined c W) ((c ∷ []) ∷ W)) f ∙ ap (joined c) (word-first d ds f) ∙ sym (ap G e2))
+    e1 ∙ ap (λ b. cond (not b) (joined c W) ((c ∷ []) ∷ W)) f ∙ ap (joined c) (word-first d ds f) ∙ sym (ap G e2))
     (cases-bool (blank d))
 
 trimmed-blank : (c : ℕ) (cs : List ℕ) → blank c ≡ true → trimmed (c ∷ cs) ≡ trimmed cs

@@ -26,7 +26,11 @@ pub enum Directive {
     // How many cells there are.
     Cells(usize),
     // A part may read (mode 1), write (2) or do both (0 and 3) with a cell.
-    Grant { cell: usize, part: u8, mode: u8 },
+    Grant {
+        cell: usize,
+        part: u8,
+        mode: u8,
+    },
     // A cell is swapped.
     Swap(usize),
     // The parts that may send to a port, and those that may receive from it.
@@ -36,5 +40,8 @@ pub enum Directive {
         receivers: u8,
     },
     // What a cell holds at first, as packed words.
-    Element { cell: usize, words: Words },
+    Element {
+        cell: usize,
+        words: Words,
+    },
 }

@@ -1,11 +1,10 @@
 ghost use mathlib.Core.Path.{_≡_};
 ghost use Rattle.setup.specs.Keywords.{keywordOf, wordsWanted};
-
 use crate::pieces::is;
 
 // The directives by name.
 #[derive(Clone, Copy)]
-pub enum Keyword {
+pub(crate) enum Keyword {
     Kind,
     Store,
     Layers,
@@ -18,7 +17,7 @@ pub enum Keyword {
 
 impl Keyword {
     // The directive that a word names.
-    pub fn of(word: &[u8]) -> Option<Keyword>
+    pub(crate) fn of(word: &[u8]) -> Option<Keyword>
         ensures { λ r. ⌜ r ≡ keywordOf (now (word .entry)) ⌝ }
     {
         if is(word, "kind") {
@@ -49,7 +48,7 @@ impl Keyword {
     }
 
     // How many words a line of this directive has.
-    pub fn words(self) -> usize
+    pub(crate) fn words(self) -> usize
         ensures { λ r. ⌜ r ≡ wordsWanted self ⌝ }
     {
         match self {

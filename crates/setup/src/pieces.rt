@@ -7,7 +7,7 @@ ghost use Rattle.std.specs.shelf.Text.{sameBytes};
 ghost use Rattle.setup.specs.Pieces.{afterWord, FirstLine, before, blank, blanks, letters, trimmed, uncommented, wordsOf};
 
 // How many characters stand before the first `c`.
-pub fn find(text: &[u8], c: u8) -> usize
+fn find(text: &[u8], c: u8) -> usize
     ensures value { λ r. ⌜ r ≡ before c (now (text .entry)) ⌝ }
     ensures within { λ r. ⌜ r ≤ length (now (text .entry)) ⌝ }
 {
@@ -68,7 +68,7 @@ fn skip_word(text: &[u8]) -> &[u8]
 }
 
 // Word `k` of a line, counted from 0; empty where there are no more than `k`.
-pub fn word(line: &[u8], k: usize) -> &[u8]
+pub(crate) fn word(line: &[u8], k: usize) -> &[u8]
     ensures { λ r. ⌜ now r ≡ getD (wordsOf (now (line .entry))) k [] ⌝ }
 {
     let mut rest = line;
@@ -98,7 +98,7 @@ pub fn is(word: &[u8], text: &str) -> bool
 }
 
 // A line up to its comment.
-pub fn without_comment(line: &[u8]) -> &[u8]
+pub(crate) fn without_comment(line: &[u8]) -> &[u8]
     ensures { λ r. ⌜ now r ≡ uncommented (now (line .entry)) ⌝ }
 {
     &line[0..find(line, b'#')]

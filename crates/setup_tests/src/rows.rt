@@ -15,12 +15,16 @@ use report::binary::add_record;
 use report::row::Row;
 use report::row::RowDisplay;
 use std::alloc::Global;
+use std::marker::PhantomData;
 use std::test::*;
 
 // Checks the row of an answer at place 12 of part 3, as levels.
 fn row(heap: Global, kind: u8, answer: Answer, told: &str) -> Result<(), Fail> {
     let record = LogRecord::new(12, 3, kind, answer);
-    let row = Row::<Level>::new(&record);
+    let row = Row::<Level> {
+        logged: &record,
+        kind: PhantomData,
+    };
     let shown = format!(heap, "{row}")?;
     check(shown.as_str() == told).note(told)
 }
@@ -34,7 +38,12 @@ fn levels(rt: LibcRuntime) -> Result<(), Fail> {
         count: 2,
         words: [64, 0, 255, 0, 0, 0, 0, 0],
     };
-    row(heap, 5, values, "   12     3  receive   done, missed 1: 64; 255")?;
+    row(
+        heap,
+        5,
+        values,
+        "   12     3  receive   done, missed 1: 64; 255",
+    )?;
     row(
         heap,
         3,
@@ -57,7 +66,10 @@ fn heads(rt: LibcRuntime) -> Result<(), Fail> {
         words: [0x00020003, 0x01000005, 0, 0, 0, 0, 0, 0],
     };
     let record = LogRecord::new(1, 0, 4, answer);
-    let row = Row::<Head>::new(&record);
+    let row = Row::<Head> {
+        logged: &record,
+        kind: PhantomData,
+    };
     let shown = format!(rt.alloc(), "{row}")?;
     check(shown.as_str() == "    1     0  send      done: pan 2 tilt 3 slot 5")
 }

@@ -31,7 +31,10 @@ fn words(rt: LibcRuntime) -> Result<(), Fail> {
             ["grant 0 0 3 x", "line 1: a word too many"],
             ["kind dimmer", "line 1: the kind is neither level nor head"],
             ["store", "line 1: a word is missing"],
-            ["store round", "line 1: the store is neither flat nor packed"],
+            [
+                "store round",
+                "line 1: the store is neither flat nor packed",
+            ],
         ],
     )
 }
@@ -48,10 +51,16 @@ fn numbers(rt: LibcRuntime) -> Result<(), Fail> {
             ["cells 0x+4", "line 1: not a number"],
             ["cells 4a", "line 1: not a number"],
             ["cells 65536", "line 1: the number is over 65535"],
-            ["cells 99999999999999999999", "line 1: the number is over 65535"],
+            [
+                "cells 99999999999999999999",
+                "line 1: the number is over 65535",
+            ],
             ["layers 3", "line 1: the number is over 2"],
             ["port 0 256 0", "line 1: the number is over 255"],
-            ["cells 1\nelement 0 0x100000000 0", "line 2: the number is over 4294967295"],
+            [
+                "cells 1\nelement 0 0x100000000 0",
+                "line 2: the number is over 4294967295",
+            ],
         ],
     )
 }
@@ -61,12 +70,30 @@ fn order(rt: LibcRuntime) -> Result<(), Fail> {
     refused(
         rt.alloc(),
         &[
-            ["cells 4\ngrant 1 0 3\nswap 1", "line 3: refusal 16: the cell is swapped, or a part has it"],
-            ["cells 4\nswap 1\ngrant 1 0 3", "line 3: refusal 16: the cell is swapped, or a part has it"],
-            ["swap 1\ncells 4", "line 1: `cells` has to stand before this line"],
-            ["element 0 1 0", "line 1: `cells` has to stand before this line"],
-            ["cells 4\nkind head\ncells 4", "line 3: this directive stands a second time"],
-            ["kind head\nkind head", "line 2: this directive stands a second time"],
+            [
+                "cells 4\ngrant 1 0 3\nswap 1",
+                "line 3: refusal 16: the cell is swapped, or a part has it",
+            ],
+            [
+                "cells 4\nswap 1\ngrant 1 0 3",
+                "line 3: refusal 16: the cell is swapped, or a part has it",
+            ],
+            [
+                "swap 1\ncells 4",
+                "line 1: `cells` has to stand before this line",
+            ],
+            [
+                "element 0 1 0",
+                "line 1: `cells` has to stand before this line",
+            ],
+            [
+                "cells 4\nkind head\ncells 4",
+                "line 3: this directive stands a second time",
+            ],
+            [
+                "kind head\nkind head",
+                "line 2: this directive stands a second time",
+            ],
             ["cells 4", "line 1: the text ends without a `kind`"],
             ["kind level\n\n", "line 2: the text ends without a `cells`"],
         ],
@@ -78,13 +105,34 @@ fn refusals(rt: LibcRuntime) -> Result<(), Fail> {
     refused(
         rt.alloc(),
         &[
-            ["cells 0", "line 1: refusal 14: the number of cells is 0 or over 512"],
-            ["cells 513", "line 1: refusal 14: the number of cells is 0 or over 512"],
-            ["cells 4\ngrant 4 0 3", "line 2: refusal 15: the cell is beyond the cells"],
-            ["cells 4\ngrant 0 8 3", "line 2: refusal 9: the part is over 7"],
-            ["cells 4\ngrant 0 0 4", "line 2: refusal 18: the mode is over 3"],
-            ["cells 4\ngrant 0 0 1\ngrant 0 1 1", "line 3: refusal 16: the cell is swapped, or a part has it"],
-            ["cells 4\nelement 4 0 0", "line 2: refusal 20: the cell is beyond the cells"],
+            [
+                "cells 0",
+                "line 1: refusal 14: the number of cells is 0 or over 512",
+            ],
+            [
+                "cells 513",
+                "line 1: refusal 14: the number of cells is 0 or over 512",
+            ],
+            [
+                "cells 4\ngrant 4 0 3",
+                "line 2: refusal 15: the cell is beyond the cells",
+            ],
+            [
+                "cells 4\ngrant 0 8 3",
+                "line 2: refusal 9: the part is over 7",
+            ],
+            [
+                "cells 4\ngrant 0 0 4",
+                "line 2: refusal 18: the mode is over 3",
+            ],
+            [
+                "cells 4\ngrant 0 0 1\ngrant 0 1 1",
+                "line 3: refusal 16: the cell is swapped, or a part has it",
+            ],
+            [
+                "cells 4\nelement 4 0 0",
+                "line 2: refusal 20: the cell is beyond the cells",
+            ],
             ["port 16 0 0", "line 1: refusal 11: the port is over 15"],
         ],
     )
@@ -92,7 +140,8 @@ fn refusals(rt: LibcRuntime) -> Result<(), Fail> {
 
 #[test]
 fn whole(_rt: LibcRuntime) -> Result<(), Fail> {
-    let text = "# a rig\nkind head\r\nstore packed\nlayers 2\n\n\tcells 0x200 # all\ngrant 0 7 3\nswap 511\nport 15 0x3 0x0C\nelement 2 1 2\nelement 2 0x00100020 3";
+    let text =
+        "# a rig\nkind head\r\nstore packed\nlayers 2\n\n\tcells 0x200 # all\ngrant 0 7 3\nswap 511\nport 15 0x3 0x0C\nelement 2 1 2\nelement 2 0x00100020 3";
     match parse(text) {
         Err(_) => Err(Fail::new("refused")),
         Ok(s) => {

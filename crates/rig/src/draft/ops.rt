@@ -8,9 +8,9 @@ ghost use Rattle.rig.specs.Plans.{accepted, changed, empty, ended, once, sized
 ghost use Rattle.rig.specs.Views.{plainOf, planOf, told};
 use super::Draft;
 use crate::problem::Problem;
+use crate::setup::Setup;
 use element::words::Words;
 use port::ports::Ports;
-use crate::setup::Setup;
 use setup::directive::Bottom;
 use setup::directive::Directive;
 use setup::line::read_line;
@@ -69,7 +69,7 @@ fn swap(sheet: Option<Sheet>, cell: usize) -> Result<Sheet, Problem>
 
 impl Draft {
     // Before the first line.
-    pub fn new() -> Draft
+    pub(crate) fn new() -> Draft
         ensures { λ r. ⌜ planOf r ≡ empty ⌝ }
     {
         Draft {
@@ -102,7 +102,7 @@ impl Draft {
     }
 
     // Carries a directive out.
-    pub fn take(self, directive: Directive) -> Result<Draft, Problem>
+    fn take(self, directive: Directive) -> Result<Draft, Problem>
         ensures { λ r. ⌜ told planOf r ≡ taken (planOf self) directive ⌝ }
     {
         let mut draft = self;
@@ -130,7 +130,7 @@ impl Draft {
     }
 
     // Reads a line and carries out what it asks.
-    pub fn take_line(self, line: &[u8]) -> Result<Draft, Problem>
+    pub(crate) fn take_line(self, line: &[u8]) -> Result<Draft, Problem>
         ensures { λ r. ⌜ told planOf r ≡ takenLine (planOf self) (lineOf (now (line .entry))) ⌝ }
     {
         match read_line(line) {
@@ -141,7 +141,7 @@ impl Draft {
     }
 
     // The setup at the end of the text.
-    pub fn finish(self) -> Result<Setup, Problem>
+    pub(crate) fn finish(self) -> Result<Setup, Problem>
         ensures { λ r. ⌜ told plainOf r ≡ ended (planOf self) (planOf self .kind) (planOf self .rows) ⌝ }
     {
         let Draft {

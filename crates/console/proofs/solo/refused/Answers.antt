@@ -12,8 +12,8 @@ loop-r-again c =
     let log = c .args .log .now in
     let i = c .loop-r .r-index in
     elim (c .if-r-ne0 .came) [
-      then-r-ne0 w ↦ (ap (λ n. n + refusals (drop (i + 1) log)) (w .count-is) ∙ counted log i (c .loop-r .count) _ (c .loop-r-test .taken) (w .if-r-ne0 .taken) (c .loop-r .inv .0), omega (arith, w .count-is))
-    | else-r-ne0 w ↦ (ap (λ n. n + refusals (drop (i + 1) log)) (w .count-is) ∙ passed log i (c .loop-r .count) _ (c .loop-r-test .taken) (w .if-r-ne0 .left) (c .loop-r .inv .0), omega (arith, w .count-is))
+      | then-r-ne0 w ↦ (ap (λ n. n + refusals (drop (i + 1) log)) (w .count-is) ∙ counted log i (c .loop-r .count) _ (c .loop-r-test .taken) (w .if-r-ne0 .taken) (c .loop-r .inv .0), omega (arith, w .count-is))
+      | else-r-ne0 w ↦ (ap (λ n. n + refusals (drop (i + 1) log)) (w .count-is) ∙ passed log i (c .loop-r .count) _ (c .loop-r-test .taken) (w .if-r-ne0 .left) (c .loop-r .inv .0), omega (arith, w .count-is))
     ]
 
 pub returns : need.returns

@@ -12,8 +12,8 @@ pub returns-then-n-most : need.returns-then-n-most
 returns-then-n-most c =
     record {
       value =
-        sym (ap (λ t. cond t (Ok (c .in-Some .n)) (Err (TooLarge (c .args .most)))) (lt-leb (c .in-Some .n) (c .args .most) (c .if-n-most .taken)))
-        ∙ number-told (c .args .most) (c .args .word .now) (Some (c .in-Some .n)) (c .if-is-empty .ensures tt) (omega arith) (c .in-Some .ensures tt);
+          sym (ap (λ t. cond t (Ok (c .in-Some .n)) (Err (TooLarge (c .args .most)))) (lt-leb (c .in-Some .n) (c .args .most) (c .if-n-most .taken)))
+          ∙ number-told (c .args .most) (c .args .word .now) (Some (c .in-Some .n)) (c .if-is-empty .ensures tt) (omega arith) (c .in-Some .ensures tt);
       bound = tt;
     }
 
@@ -28,7 +28,7 @@ pub returns-else-n-most : need.returns-else-n-most
 returns-else-n-most c =
     record {
       value =
-        sym (ap (λ t. cond t (Ok (c .in-Some .n)) (Err (TooLarge (c .args .most)))) (le-leb (c .in-Some .n) (c .args .most) (c .if-n-most .left)))
-        ∙ number-told (c .args .most) (c .args .word .now) (Some (c .in-Some .n)) (c .if-is-empty .ensures tt) (omega arith) (c .in-Some .ensures tt);
+          sym (ap (λ t. cond t (Ok (c .in-Some .n)) (Err (TooLarge (c .args .most)))) (le-leb (c .in-Some .n) (c .args .most) (c .if-n-most .left)))
+          ∙ number-told (c .args .most) (c .args .word .now) (Some (c .in-Some .n)) (c .if-is-empty .ensures tt) (omega arith) (c .in-Some .ensures tt);
       bound = c .if-n-most .left;
     }
