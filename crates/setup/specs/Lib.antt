@@ -1,0 +1,5 @@
+pub mod Pieces
+pub mod Numbers
+pub mod Keywords
+pub mod Directives
+pub mod Problems
