@@ -1,9 +1,10 @@
 -- Refusals and kinds in words. Assumes nothing.
-use Prim.Native.Nat.{ℕ}
-use mathlib.Core.Bool.{cond}
-use mathlib.Core.List.{List}
+use Prim.Native.Nat.{ℕ, _-_}
+use mathlib.Core.Bool.{cond, _||_}
+use mathlib.Core.List.{List, [], _++_}
 use lib.Chars.{codes}
-use lib.Dec.{eqb}
+use lib.Dec.{eqb, ltb}
+use Rattle.std.specs.Written.{decimal}
 use Rattle.std.specs.declared.option.Option.{Option}
 use Rattle.std.specs.declared.option.Option.the-variants.{Some, None}
 use Rattle.command.specs.Kinds.{kindText}
@@ -30,3 +31,14 @@ reasonText n =
 abbrev pub nameText : Option Kind → List ℕ
 nameText None = codes "?"
 nameText (Some k) = kindText k
+
+-- what a refusal is about, by its number and detail: a byte of the record, a cell that it names, or the fault of the set
+abbrev pub detailText : ℕ → ℕ → List ℕ
+detailText n at =
+    cond (eqb n 7 || (eqb n 8 || (eqb n 9 || eqb n 11))) (codes " (byte " ++ (decimal at ++ codes ")"))
+    (cond (eqb n 12) (cond (ltb at 8) (codes " (argument " ++ (decimal at ++ codes ")")) (codes " (result " ++ (decimal (at - 8) ++ codes ")")))
+    (cond (eqb n 13) (codes " (set fault " ++ (decimal at ++ codes ")")) []))
+
+-- a refusal in words
+abbrev pub refusalText : ℕ → ℕ → List ℕ
+refusalText n at = codes "refusal " ++ (decimal n ++ (codes ": " ++ (reasonText n ++ detailText n at)))

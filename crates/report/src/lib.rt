@@ -2,4 +2,5 @@
 pub mod binary;
 pub mod listing;
 pub mod reason;
+pub mod refusal;
 pub mod row;

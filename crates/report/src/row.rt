@@ -1,6 +1,7 @@
 // The table of a run: one row a command.
 use crate::reason::kind_name;
-use crate::reason::reason;
+use crate::refusal::RefusalNumber;
+use crate::refusal::RefusalNumberDisplay;
 use command::kind::Kind;
 use command::log::LogRecord;
 use element::element::Element;
@@ -13,23 +14,6 @@ use std::marker::PhantomData;
 pub struct Row<'a, E> {
     pub logged: &'a LogRecord,
     pub kind: PhantomData<E>,
-}
-
-// What a refusal is about: a byte of the record, a cell it names, or the fault of the set.
-fn detail<W: fmt::Write>(r: &LogRecord, f: &mut fmt::Formatter<W>) -> fmt::Result {
-    let at = r.detail;
-    match r.refusal {
-        7 | 8 | 9 | 11 => write!(f, " (byte {at})"),
-        12 if at < 8 => write!(f, " (argument {at})"),
-        12 => {
-            let result = at - 8;
-            write!(f, " (result {result})")
-        }
-        13 if at == 1 => f.write_str(" (unknown code)"),
-        13 if at == 2 => f.write_str(" (wrong count of elements)"),
-        13 => write!(f, " (fault {at})"),
-        _ => Ok(()),
-    }
 }
 
 // The values of a record.
@@ -58,14 +42,15 @@ pub impl<'a, E: Element + fmt::Display> fmt::Display for Row<'a, E> as RowDispla
         let place = r.place;
         let part = r.part;
         let kind = kind_name(Kind::of(r.kind));
-        let told = reason(r.refusal);
         write!(f, "{place:>5}  {part:>4}  {kind:<8}  ")?;
         if r.refusal != 0 {
-            let number = r.refusal;
-            write!(f, "refusal {number}: {told}")?;
-            return detail(r, f);
+            let refusal = RefusalNumber {
+                number: r.refusal,
+                detail: r.detail,
+            };
+            return write!(f, "{refusal}");
         }
-        f.write_str(told)?;
+        f.write_str("done")?;
         if r.missed != 0 {
             let missed = r.missed;
             write!(f, ", missed {missed}")?;

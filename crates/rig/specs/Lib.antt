@@ -1,3 +1,4 @@
 pub mod Plans
 pub mod Views
 pub mod Texts
+pub mod Asked

@@ -1,7 +1,9 @@
 // A whole setup text.
 ghost use mathlib.Core.Path.{_≡_};
+ghost use Rattle.std.specs.Vec.{made};
+ghost use Rattle.rig.specs.Asked.{Asked};
 ghost use Rattle.rig.specs.Plans.{rigOf};
-ghost use Rattle.rig.specs.Views.{toldAt};
+ghost use Rattle.rig.specs.Views.{plainOf, toldAt};
 use crate::draft::Draft;
 use crate::problem::SetupError;
 use crate::setup::Setup;
@@ -9,7 +11,8 @@ use setup::pieces::split_line;
 
 // The setup that a text asks for, its lines carried out in their order; or the first problem, with its line.
 pub fn parse(text: &str) -> Result<Setup, SetupError>
-    ensures { λ r. ⌜ toldAt r ≡ rigOf (now (text .entry)) ⌝ }
+    ensures value { λ r. ⌜ toldAt r ≡ rigOf (now (text .entry)) ⌝ }
+    ensures asked { λ r. ⌜ made r (λ s. Asked (now (text .entry)) (plainOf s)) ⌝ }
 {
     let mut draft = Draft::new();
     let mut rest = text.as_bytes();
