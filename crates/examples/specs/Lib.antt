@@ -1,1 +1,4 @@
+pub mod Codes
+pub mod Records
+pub mod Shows
 pub mod Examples

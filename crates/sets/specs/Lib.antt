@@ -5,4 +5,3 @@ pub mod Few
 pub mod Counts
 pub mod LevelLaws
 pub mod HeadLaws
-pub mod Examples

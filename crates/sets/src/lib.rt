@@ -1,6 +1,5 @@
 // The two instruction sets: over levels and over heads.
 mod curve;
-pub mod examples;
 mod head_codes;
 pub mod head_set;
 mod level_codes;

@@ -10,7 +10,7 @@ use Rattle.command.specs.Shape.{most}
 use Rattle.command.specs.Order.{decoded}
 use Rattle.isolation.specs.Making.{Exclusive}
 use Rattle.isolation.specs.Request.{order}
-use Rattle.isolation_examples.specs.Examples.{making, Holds, nine, turns, twice, short, refusals, Examples}
+use Rattle.examples.specs.Shows.{making, Holds, nine, turns, twice, short, refusals, Shows}
 
 few : (b : Bool) → exclusive (cond b 0 1) (cond b 0 1) ≡ true
 few true = le-leb (ones (bitOr 0 0)) 1 (ones-le 1 0 (lit< tt))
@@ -42,7 +42,7 @@ refusals-holds : Holds refusals
 unfolding order decoded most
 refusals-holds = record { answers = refl; cells = refl; boxes = refl }
 
-pub worked : Examples
+pub worked : Shows
 worked = record {
   exclusive = single-part;
   all = (nine-holds, (turns-holds, (twice-holds, (short-holds, (refusals-holds, tt)))));

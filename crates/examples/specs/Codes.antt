@@ -29,8 +29,8 @@ abbrev pub points : ℕ → List (ℕ × ℕ) → Result (List ℕ) SetFault
 points code ps = onto aims (headMeaning code (map (λ p. head (p .0) (p .1) Open) ps))
 
 -- what is computed, and what it should be
-abbrev pub examples : List (Result (List ℕ) SetFault × Result (List ℕ) SetFault)
-examples =
+abbrev pub codes : List (Result (List ℕ) SetFault × Result (List ℕ) SetFault)
+codes =
     (lights 3 (128 ∷ 128 ∷ []), Ok (64 ∷ []))
     ∷ (lights 4 (11 ∷ []), Ok (0 ∷ []))
     ∷ (lights 4 (12 ∷ []), Ok (1 ∷ []))

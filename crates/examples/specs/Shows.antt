@@ -16,7 +16,7 @@ use Rattle.isolation.specs.Making.{Making, Exclusive, Outcome, fault, gives}
 use Rattle.isolation.specs.Request.{Request, Answer, refused, done, Entry}
 use Rattle.isolation.specs.Machine.{hostStep, made}
 use Rattle.isolation.specs.History.{machineLog, stateAfter, boxLog}
-use Rattle.isolation_examples.specs.Records.{bytes, request, restore, save, instruct, send, receive}
+use Rattle.examples.specs.Records.{bytes, request, restore, save, instruct, send, receive}
 
 -- what the level set gives, as a making has it
 abbrev pub outcomeOf : {E : Type 0} → Result (List E) SetFault → Outcome E
@@ -148,8 +148,8 @@ abbrev pub AllHold : List Example → Type 0
 AllHold [] = Unit {0}
 AllHold (x ∷ xs) = Holds x × AllHold xs
 
--- the examples, on a making whose sheet is exclusive
-pub record Examples : Type 0 where
+-- the shows, on a making whose sheet is exclusive
+pub record Shows : Type 0 where
   pub exclusive : Exclusive making
   pub all : AllHold examples
   -- where store and sheet differ in size: 19, after 1 and 6
