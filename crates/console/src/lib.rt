@@ -1,6 +1,6 @@
-// What the program needs beside the host: its options, its faults, the table of a run, and what is left for one part.
+// What the program needs beside the host: its options, its faults, its files and the table of a run.
 pub mod fault;
+pub mod files;
 pub mod flag;
 pub mod options;
-pub mod solo;
 pub mod table;

@@ -1,7 +1,6 @@
 // The log for the driver: 44 bytes a record.
 ghost use mathlib.Core.List.{_++_};
 ghost use mathlib.Core.Path.{_≡_};
-ghost use Prim.Native.Nat.{_*_};
 ghost use Rattle.std.specs.Of.Vec.{vec-items};
 ghost use Rattle.std.specs.Vec.{made};
 ghost use Rattle.report.specs.Bytes.{bytesOf, logBytes, wordBytes};

@@ -1,9 +1,8 @@
 -- What is left of a show for one part. Assumes nothing.
-use Prim.Native.Nat.{ℕ, _+_}
-use mathlib.Core.Bool.{Bool, true, cond, not, _&&_, _||_}
-use mathlib.Core.List.{List, [], _∷_}
+use Prim.Native.Nat.{ℕ}
+use mathlib.Core.Bool.{Bool, _&&_, _||_}
+use mathlib.Core.List.{List}
 use lib.Dec.{eqb}
-use Rattle.command.specs.declared.log.LogRecord.{LogRecord}
 use Rattle.isolation.specs.Request.{Request, part, turnCall, workCommand}
 use Rattle.part.specs.Sets.{bit}
 
@@ -16,8 +15,3 @@ requestOf bytes = record { place = 0; bytes = bytes; argRoom = 8; resultRoom = 4
 abbrev pub isLeft : ℕ → ℕ → List ℕ → ℕ → Bool
 isLeft n u bytes refusal =
     bit (part (requestOf bytes)) u && ((turnCall (requestOf bytes) && eqb refusal 0) || workCommand n (requestOf bytes))
-
--- how many records of a log have a refusal
-abbrev pub refusals : List LogRecord → ℕ
-refusals [] = 0
-refusals (r ∷ rs) = cond (eqb (r .refusal) 0) (refusals rs) (refusals rs + 1)

@@ -2,10 +2,10 @@ use mathlib.Core.Path.{_≡_, sym, ap, _∙_}
 use Prim.Native.Nat.{_+_, _≤_}
 use native.Mathlib.Omega.{arith}
 use lib.ListN.{drop}
-use Rattle.console.specs.Solo.{refusals}
-use Rattle.console.proofs.Counting.{passed, counted, counted-all}
-use Rattle.console.proofs.solo.refused.Needs as need
-use Rattle.console.proofs.solo.refused.Needs.{then-r-ne0, else-r-ne0}
+use Rattle.solo.specs.Logs.{refusals}
+use Rattle.solo.proofs.Counting.{passed, counted, counted-all}
+use Rattle.solo.proofs.logs.refused.Needs as need
+use Rattle.solo.proofs.logs.refused.Needs.{then-r-ne0, else-r-ne0}
 
 pub loop-r-again : need.loop-r-again
 loop-r-again c =

@@ -9,7 +9,7 @@ use lib.ListN.{length, getD, drop}
 use Rattle.command.specs.declared.log.LogRecord.{LogRecord}
 use Rattle.std.proofs.shelf.Lists.{at-drop-more, at-drop-all}
 use Rattle.std.proofs.shelf.Tests.{eq-eqb, ne-eqb}
-use Rattle.console.specs.Solo.{refusals}
+use Rattle.solo.specs.Logs.{refusals}
 
 pub passed : (log : List LogRecord) (i n : ℕ) (d : LogRecord) → i < length log → getD log i d .refusal ≡ 0 → n + refusals (drop i log) ≡ refusals log → n + refusals (drop (i + 1) log) ≡ refusals log
 passed log i n d h e inv =

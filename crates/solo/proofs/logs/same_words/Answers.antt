@@ -1,5 +1,5 @@
 use Rattle.std.proofs.shelf.Equals.{matches-decides}
-use Rattle.console.proofs.solo.same_words.Needs as need
+use Rattle.solo.proofs.logs.same_words.Needs as need
 
 pub returns : need.returns
 returns c = matches-decides (c .args .a .now) (c .args .b .now) (c .eq .result) (c .eq .ensures)
