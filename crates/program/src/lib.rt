@@ -1,0 +1,4 @@
+// The program: it reads a setup and its shows, plays them, prints what was done and writes the log.
+pub mod playback;
+mod print;
+mod read;
