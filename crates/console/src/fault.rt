@@ -1,7 +1,6 @@
 // Why the program ends with status 1.
 ghost use mathlib.Core.Path.{_≡_};
 ghost use Rattle.console.specs.declared.fault.Fault.the-variants.{Memory, Output};
-use report::reason::reason;
 use rig::problem::SetupError;
 use rig::problem::SetupErrorDisplay;
 use showfile::refusal::FileRefusal;
@@ -10,6 +9,7 @@ use std::alloc::AllocError;
 use std::alloc::Refused;
 use std::fmt;
 use std::io;
+use wording::reason::reason;
 
 #[derive(Drop)]
 pub enum Fault {

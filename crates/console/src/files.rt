@@ -3,7 +3,7 @@ use crate::fault::Fault;
 use crate::fault::FaultFromAlloc;
 use crate::fault::FaultFromRefused;
 use command::log::LogRecord;
-use report::binary::add_log;
+use logfile::binary::add_log;
 use rig::parse::parse;
 use rig::setup::Setup;
 use showfile::file::ShowFile;

@@ -1,6 +1,3 @@
-// What the program prints and writes, one line or 44 bytes a record.
-pub mod binary;
+// What the program prints, one line a record.
 pub mod listing;
-pub mod reason;
-pub mod refusal;
 pub mod row;

@@ -1,13 +1,13 @@
 // The table of a run: one row a command.
-use crate::reason::kind_name;
-use crate::refusal::RefusalNumber;
-use crate::refusal::RefusalNumberDisplay;
 use command::kind::Kind;
 use command::log::LogRecord;
 use element::element::Element;
 use element::words::Words;
 use std::fmt;
 use std::marker::PhantomData;
+use wording::reason::kind_name;
+use wording::refusal::RefusalNumber;
+use wording::refusal::RefusalNumberDisplay;
 
 // A log record as a row, its values as elements of this kind.
 #[derive(Drop)]

@@ -8,7 +8,7 @@ use element::head::show::HeadDisplay;
 use element::level::Level;
 use element::level::packing::LevelElement;
 use element::level::show::LevelDisplay;
-use report::binary::add_record;
+use logfile::binary::add_record;
 use report::row::Row;
 use report::row::RowDisplay;
 use solo::left::is_left;

@@ -1,6 +1,6 @@
 // Refusals and kinds in words.
 ghost use mathlib.Core.Path.{_≡_};
-ghost use Rattle.report.specs.Reasons.{nameText, reasonText};
+ghost use Rattle.wording.specs.Reasons.{nameText, reasonText};
 use command::kind::Kind;
 
 // Why a command or a run is refused, by the refusal's number; 0 is no refusal.

@@ -1,7 +1,7 @@
 use mathlib.Core.Path.{refl, _∙_}
-use Rattle.report.specs.Bytes.{bytesOf, logBytes}
-use Rattle.report.proofs.Adding.{piece-more, piece-all}
-use Rattle.report.proofs.binary.add_log.Needs as need
+use Rattle.logfile.specs.Bytes.{bytesOf, logBytes}
+use Rattle.logfile.proofs.Adding.{piece-more, piece-all}
+use Rattle.logfile.proofs.binary.add_log.Needs as need
 
 pub loop-r-again : need.loop-r-again
 loop-r-again c =

@@ -1,9 +1,9 @@
 use mathlib.Core.Path.{refl, _∙_, ap}
 use mathlib.Core.List.{_++_}
 use Rattle.std.specs.Of.Vec.{vec-items}
-use Rattle.report.specs.Bytes.{le4, wordBytes}
-use Rattle.report.proofs.Adding.{piece-more, piece-all}
-use Rattle.report.proofs.binary.add_words.Needs as need
+use Rattle.logfile.specs.Bytes.{le4, wordBytes}
+use Rattle.logfile.proofs.Adding.{piece-more, piece-all}
+use Rattle.logfile.proofs.binary.add_words.Needs as need
 
 pub loop-w-again : need.loop-w-again
 loop-w-again c =

@@ -3,7 +3,7 @@ ghost use mathlib.Core.List.{_++_};
 ghost use mathlib.Core.Path.{_≡_};
 ghost use Rattle.std.specs.Of.Vec.{vec-items};
 ghost use Rattle.std.specs.Vec.{made};
-ghost use Rattle.report.specs.Bytes.{bytesOf, logBytes, wordBytes};
+ghost use Rattle.logfile.specs.Bytes.{bytesOf, logBytes, wordBytes};
 use command::log::LogRecord;
 use std::alloc::AllocError;
 

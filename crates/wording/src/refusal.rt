@@ -1,6 +1,6 @@
 // A refusal of a log record in words.
 ghost use Rattle.std.specs.declared.option.Option.the-variants.{Some};
-ghost use Rattle.report.specs.Reasons.{detailText, refusalText};
+ghost use Rattle.wording.specs.Reasons.{detailText, refusalText};
 use crate::reason::reason;
 use std::fmt;
 

@@ -1,0 +1,2 @@
+// The log as a file for the driver.
+pub mod binary;

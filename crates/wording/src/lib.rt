@@ -1,0 +1,3 @@
+// Refusals and kinds in words.
+pub mod reason;
+pub mod refusal;
