@@ -1,4 +1,5 @@
-// playback [--log OUT] [--solo PART] SETUP SHOW..
+// playback [--log OUT] [--solo PART] SETUP SHOW.., or playback SHOW
+use crate::list;
 use crate::print;
 use crate::read;
 use console::fault::Fault;
@@ -45,9 +46,9 @@ fn play(
 }
 
 // Reads, plays, prints and writes the log.
-fn perform(rt: &LibcRuntime) -> Result<(), Fault> {
+fn perform(rt: &LibcRuntime, words: Vec<String>) -> Result<(), Fault> {
     let heap = rt.alloc();
-    let options = read::options(rt)?;
+    let options = Options::read(heap, words)?;
     let text = read::text(rt, options.setup.as_str())?;
     let _checked = read::setup(heap, options.setup.as_str(), text.as_str())?;
     let shows = read::shows(rt, options.shows.as_slice())?;
@@ -83,9 +84,18 @@ fn perform(rt: &LibcRuntime) -> Result<(), Fault> {
     Ok(out.flush()?)
 }
 
+// A show file alone is printed; a setup with shows is played.
+fn choose(rt: &LibcRuntime) -> Result<(), Fault> {
+    let words = read::words(rt)?;
+    if words.len() == 1 {
+        return list::show(rt, words[0].as_str());
+    }
+    perform(rt, words)
+}
+
 // The whole program; a fault is told on the standard error.
 pub fn playback(rt: &LibcRuntime) -> Result<(), Fault> {
-    let ended = perform(rt);
+    let ended = choose(rt);
     if let Err(fault) = &ended {
         eprintln!(rt, "playback: {fault}")?;
     }

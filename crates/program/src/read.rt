@@ -3,7 +3,6 @@ use console::fault::Fault;
 use console::fault::FaultFromAlloc;
 use console::fault::FaultFromIo;
 use console::fault::FaultFromRefused;
-use console::options::Options;
 use rig::parse::parse;
 use rig::setup::Setup;
 use showfile::file::ShowFile;
@@ -13,15 +12,15 @@ use std::env;
 use std::fs;
 use std::io;
 
-// What the command line asks.
-pub(crate) fn options(rt: &LibcRuntime) -> Result<Options, Fault> {
+// The words of the command line, without the program's own name.
+pub(crate) fn words(rt: &LibcRuntime) -> Result<Vec<String>, Fault> {
     let mut words = env::args(rt)?;
     let _program = words.next();
     let mut list = Vec::new(rt.alloc());
     for word in words {
         list.push(word)?;
     }
-    Options::read(rt.alloc(), list)
+    Ok(list)
 }
 
 // The fault of a file that cannot be read or written.
@@ -68,7 +67,7 @@ pub(crate) fn setup(heap: Global, path: &str, text: &str) -> Result<Setup, Fault
 }
 
 // The bytes of a show file that can be opened.
-fn show(rt: &LibcRuntime, path: &str) -> Result<Vec<u8>, Fault> {
+pub(crate) fn show(rt: &LibcRuntime, path: &str) -> Result<Vec<u8>, Fault> {
     let bytes = match fs::read(rt, path) {
         Ok(bytes) => bytes,
         Err(error) => return Err(file_fault(rt.alloc(), path, error)),
