@@ -13,7 +13,7 @@ use std::env;
 use std::fs;
 use std::io;
 
-// What the command line asks.
+// What the command line asks. A setup's path never begins as an option does.
 pub(crate) fn options(rt: &LibcRuntime) -> Result<Options, Fault> {
     let mut words = env::args(rt)?;
     let _program = words.next();
@@ -21,7 +21,11 @@ pub(crate) fn options(rt: &LibcRuntime) -> Result<Options, Fault> {
     for word in words {
         list.push(word)?;
     }
-    Options::read(rt.alloc(), list)
+    let options = Options::read(rt.alloc(), list)?;
+    if options.setup.as_str().starts_with("--") {
+        return Err(Fault::Usage);
+    }
+    Ok(options)
 }
 
 // The fault of a file that cannot be read or written.
