@@ -3,7 +3,6 @@ use crate::read;
 use command::decode::decode;
 use console::fault::Fault;
 use console::fault::FaultFromIo;
-use console::flag::Flag;
 use report::listing::Listed;
 use report::listing::ListedDisplay;
 use showfile::file::ShowFile;
@@ -28,7 +27,7 @@ fn lines<W: Write>(out: &mut W, file: ShowFile) -> io::Result<()> {
 
 // Opens a show file and prints it.
 pub(crate) fn show(rt: &LibcRuntime, path: &str) -> Result<(), Fault> {
-    if Flag::of(path).is_some() {
+    if path.starts_with("--") {
         return Err(Fault::Usage);
     }
     let bytes = read::show(rt, path)?;

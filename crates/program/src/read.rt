@@ -3,6 +3,7 @@ use console::fault::Fault;
 use console::fault::FaultFromAlloc;
 use console::fault::FaultFromIo;
 use console::fault::FaultFromRefused;
+use console::options::Options;
 use rig::parse::parse;
 use rig::setup::Setup;
 use showfile::file::ShowFile;
@@ -21,6 +22,15 @@ pub(crate) fn words(rt: &LibcRuntime) -> Result<Vec<String>, Fault> {
         list.push(word)?;
     }
     Ok(list)
+}
+
+// What these words ask. A setup's path never begins as an option does.
+pub(crate) fn options(heap: Global, words: Vec<String>) -> Result<Options, Fault> {
+    let options = Options::read(heap, words)?;
+    if options.setup.as_str().starts_with("--") {
+        return Err(Fault::Usage);
+    }
+    Ok(options)
 }
 
 // The fault of a file that cannot be read or written.

@@ -1,5 +1,5 @@
 ghost use mathlib.Core.Path.{_≡_};
-ghost use Rattle.stage.specs.declared.fault.StageFault.the-variants.{Memory, Show};
+ghost use Rattle.stage.specs.declared.fault.StageFault.the-variants.{Memory};
 use command::refusal::Refusal;
 use run::refusal::RunRefusal;
 use showfile::refusal::FileRefusal;

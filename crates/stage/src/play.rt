@@ -1,4 +1,9 @@
 // The one generic run: it makes the host, plays the shows in order on it, and gives the store back.
+ghost use mathlib.Core.Path.{_≡_};
+ghost use lib.ListN.{length};
+ghost use Rattle.std.specs.Of.Vec.{vec-len};
+ghost use Rattle.std.specs.Vec.{made};
+ghost use Rattle.showfile.specs.Opening.{rest};
 use crate::fault::StageFault;
 use crate::fault::StageFaultFromAlloc;
 use crate::fault::StageFaultFromRefused;
@@ -46,7 +51,9 @@ fn play_show<S: Store, I: InstructionSet<S::Item>>(
     host: &mut Host<S, I>,
     show: usize,
     file: ShowFile,
-) -> Result<Vec<LogRecord>, StageFault> {
+) -> Result<Vec<LogRecord>, StageFault>
+    ensures { λ r. ⌜ made r (λ log. vec-len log ≡ length (rest (file .entry))) ⌝ }
+{
     let mut args = nulls::<S::Item>(heap, 8)?;
     let mut results = nulls::<S::Item>(heap, 4)?;
     let mut log = Vec::from_elem(heap, BLANK, file.remaining())?;

@@ -1,4 +1,5 @@
 // What a run of several shows keeps.
+ghost use Rattle.stage.specs.Sessions.{Begun, Turned};
 use command::log::LogRecord;
 use std::alloc::Global;
 
@@ -28,7 +29,9 @@ pub struct Session {
 
 impl Session {
     // A session of whole shows.
-    pub fn new(heap: Global) -> Session {
+    pub fn new(heap: Global) -> Session
+        ensures { λ r. ⌜ Begun r ⌝ }
+    {
         Session {
             task: Task::Whole,
             logs: Vec::new(heap),
@@ -37,7 +40,9 @@ impl Session {
     }
 
     // From now on only what the logs leave for this part is played.
-    pub fn leave(&mut self, part: u8) {
+    pub fn leave(&mut self, part: u8)
+        ensures { λ _. ⌜ Turned (now (self .entry)) (now (self .exit)) part ⌝ }
+    {
         self.task = Task::Left(part);
         self.tally = Tally { left: 0, alike: 0 };
     }
