@@ -60,7 +60,9 @@ pub impl fmt::Display for Fault as FaultDisplay {
     fn fmt<W: fmt::Write>(&self, f: &mut fmt::Formatter<W>) -> fmt::Result {
         match self {
             Fault::Usage => {
-                f.write_str("usage: playback [--log OUT] [--solo PART] SETUP SHOW.., or playback SHOW")
+                f.write_str(
+                    "usage: playback [--log OUT] [--solo PART] SETUP SHOW.., or playback SHOW",
+                )
             }
             Fault::Part => f.write_str("--solo wants a part, 0 to 7"),
             Fault::Memory => f.write_str("out of memory"),

@@ -50,7 +50,7 @@ fn perform(rt: &LibcRuntime, words: Vec<String>) -> Result<(), Fault> {
     let heap = rt.alloc();
     let options = read::options(heap, words)?;
     let text = read::text(rt, options.setup.as_str())?;
-    let _checked = read::setup(heap, options.setup.as_str(), text.as_str())?;
+    let checked = read::setup(heap, options.setup.as_str(), text.as_str())?;
     let shows = read::shows(rt, options.shows.as_slice())?;
     let mut session = Session::new(heap);
     let cells = play(
@@ -71,6 +71,7 @@ fn perform(rt: &LibcRuntime, words: Vec<String>) -> Result<(), Fault> {
         &cells,
     )?;
     if let Some(part) = options.solo {
+        let upstream = checked.ports.upstream(part);
         session.leave(part);
         let _cells = play(
             heap,
@@ -79,7 +80,7 @@ fn perform(rt: &LibcRuntime, words: Vec<String>) -> Result<(), Fault> {
             shows.as_slice(),
             &mut session,
         )?;
-        print::alone(&mut out, part, session.tally)?;
+        print::alone(&mut out, part, upstream, session.tally)?;
     }
     Ok(out.flush()?)
 }

@@ -3,7 +3,6 @@ use crate::read::file_fault;
 use command::log::LogRecord;
 use console::fault::Fault;
 use console::fault::FaultFromAlloc;
-use solo::logs::refused;
 use console::table::cells;
 use console::table::closing;
 use console::table::headings;
@@ -16,6 +15,10 @@ use element::level::Level;
 use element::level::packing::LevelElement;
 use element::level::show::LevelDisplay;
 use logfile::binary::add_log;
+use part::set::Mask;
+use part::set::PARTS;
+use part::set::contains;
+use solo::logs::refused;
 use stage::cells::Cells;
 use stage::session::Tally;
 use std::fmt::Display;
@@ -59,8 +62,24 @@ pub(crate) fn whole<W: Write>(
     }
 }
 
-// What was left for one part, and whether it was answered as before.
-pub(crate) fn alone<W: Write>(out: &mut W, part: u8, tally: Tally) -> io::Result<()> {
+// The parts that can reach one part, itself among them.
+fn reaching<W: Write>(out: &mut W, part: u8, upstream: Mask) -> io::Result<()> {
+    write!(out, "upstream of part {part}: parts")?;
+    for other in 0..PARTS {
+        if contains(upstream, other) {
+            write!(out, " {other}")?;
+        }
+    }
+    writeln!(out, "")
+}
+
+// Who is upstream of one part, what was left for it, and whether it was answered as before.
+pub(crate) fn alone<W: Write>(
+    out: &mut W,
+    part: u8,
+    upstream: Mask,
+    tally: Tally,
+) -> io::Result<()> {
     let left = tally.left;
     let alike = tally.alike;
     let verdict = if left == alike {
@@ -68,6 +87,7 @@ pub(crate) fn alone<W: Write>(out: &mut W, part: u8, tally: Tally) -> io::Result
     } else {
         "NOT the same"
     };
+    reaching(out, part, upstream)?;
     writeln!(
         out,
         "part {part} alone: {left} commands left, {alike} answered alike: {verdict}"

@@ -12,8 +12,6 @@ use crate::session::Session;
 use crate::session::Tally;
 use crate::session::Task;
 use command::log::LogRecord;
-use solo::left::is_left;
-use solo::logs::same;
 use element::element::Element;
 use host::host::Host;
 use host::host::Made;
@@ -24,6 +22,8 @@ use run::show::run;
 use sheet::sheet::Sheet;
 use showfile::file::ShowFile;
 use showfile::file::ShowFileRecords;
+use solo::left::is_left;
+use solo::logs::same;
 use std::alloc::Global;
 use store::store::Store;
 
