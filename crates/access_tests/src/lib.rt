@@ -1,4 +1,6 @@
 // Tests of the access sheet, the port sets and the port queues.
+#![tactic(auto)]
+
 #[cfg(test)]
 mod bit;
 #[cfg(test)]

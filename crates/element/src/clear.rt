@@ -5,7 +5,7 @@ use crate::element::Element;
 // Sets eight places to the null element.
 fn clear_eight<E: Element>(places: &mut [E])
     requires { length places.old ≡ 8 }
-    ensures { places.new ≡ replicate 8 blank }
+    ensures { places.new ≡ replicate 8 E.blank }
 {
     let null = E::null();
     places[0] = null;
@@ -21,7 +21,7 @@ fn clear_eight<E: Element>(places: &mut [E])
 // Sets four places to the null element.
 fn clear_four<E: Element>(places: &mut [E])
     requires { length places.old ≡ 4 }
-    ensures { places.new ≡ replicate 4 blank }
+    ensures { places.new ≡ replicate 4 E.blank }
 {
     let null = E::null();
     places[0] = null;
@@ -32,7 +32,7 @@ fn clear_four<E: Element>(places: &mut [E])
 
 // Sets all places to the null element, one after another.
 fn clear_each<E: Element>(places: &mut [E])
-    ensures { places.new ≡ replicate (length places.old) blank }
+    ensures { places.new ≡ replicate (length places.old) E.blank }
 {
     for x in places.iter_mut() {
         *x = E::null();
@@ -41,7 +41,7 @@ fn clear_each<E: Element>(places: &mut [E])
 
 // Sets every place of a list to the null element; quickly at the two lengths that commands need.
 pub fn clear<E: Element>(places: &mut [E])
-    ensures { places.new ≡ replicate (length places.old) blank }
+    ensures { places.new ≡ replicate (length places.old) E.blank }
 {
     match places.len() {
         8 => clear_eight(places),

@@ -1,4 +1,6 @@
 // Element kinds: what a cell holds.
+#![tactic(auto)]
+
 pub mod clear;
 pub mod colour;
 pub mod element;

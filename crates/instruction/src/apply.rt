@@ -12,8 +12,8 @@ pub fn apply<E: Element, I: InstructionSet<E>>(
     args: &[E],
     places: &mut [E],
 ) -> Result<usize, SetFault>
-    ensures applied { Applied (meaning set.old code args.now) places.old places.new result }
-    ensures same { meaning set.new ≡ meaning set.old }
+    ensures applied { Applied (I.meaning set.old code args.now) places.old places.new result }
+    ensures same { I.meaning set.new ≡ I.meaning set.old }
 {
     set.call(code, args, places)
 }

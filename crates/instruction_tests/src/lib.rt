@@ -1,4 +1,6 @@
 // Tests of the element kinds and the instruction sets at their edges.
+#![tactic(auto)]
+
 #[cfg(test)]
 mod head_calls;
 #[cfg(test)]

@@ -1,4 +1,6 @@
 // The isolation theorem, for every type of element.
+#![tactic(auto)]
+
 ghost use Rattle.isolation.specs.Isolation.{Isolation, IsolatedAnswers};
 ghost use Rattle.isolation.specs.OneStep.{Unwinding};
 ghost use Rattle.isolation.specs.Rules.{RulesKept, ResultsWritten};

@@ -21,7 +21,7 @@ impl<S: Store> Held<S> {
     pub fn new(below: S) -> Held<S>
         ensures below { result.below ≡ below }
         ensures held { held_in result.table ≡ [] }
-        ensures transparent { Transparent Item-as-Element (S.Store.cells below) }
+        ensures transparent { Transparent S.Item.Element (S.Store.cells below) }
     {
         Held {
             below,
@@ -32,7 +32,7 @@ impl<S: Store> Held<S> {
     // Sends the longest-held write down.
     fn send(&mut self)
         requires { 0 < length (held_in self.old.table) }
-        ensures { SentDown S.Store Item-as-Element self.old self.new 1 }
+        ensures { SentDown S.Store S.Item.Element self.old self.new 1 }
     {
         let w = self.table.shift();
         let x = <S::Item as Element>::unpack(w.words);

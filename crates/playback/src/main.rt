@@ -1,4 +1,6 @@
 // Plays show files on a host made from a setup text.
+#![tactic(auto)]
+
 use console::fault::Fault;
 use program::playback::playback;
 

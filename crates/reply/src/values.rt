@@ -7,7 +7,7 @@ use element::words::Words;
 
 // The words of value `i`, or zeros where there is none.
 fn words_at<E: Element>(values: &[E], i: usize) -> Words
-    ensures { result ≡ words_at packed values.now i }
+    ensures { result ≡ words_at E.packed values.now i }
 {
     if i < values.len() {
         values[i].pack()
@@ -21,7 +21,7 @@ fn words_at<E: Element>(values: &[E], i: usize) -> Words
 
 // The answer of work that gave values; a record has room for four.
 pub fn values<E: Element>(missed: u8, values: &[E]) -> Answer
-    ensures { told result ≡ told_values packed missed values.now }
+    ensures { told result ≡ told_values E.packed missed values.now }
 {
     let a = words_at(values, 0);
     let b = words_at(values, 1);

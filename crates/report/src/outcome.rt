@@ -32,7 +32,7 @@ impl<E: fmt::Display> fmt::Display for Value<E> {
 // Value `i` of a record.
 fn value_at<E: Element>(r: &LogRecord, i: usize) -> Value<E>
     requires { i < 4 }
-    ensures { result ≡ value_at unpacked r.now i }
+    ensures { result ≡ value_at E.unpacked r.now i }
 {
     if i >= r.count as usize {
         return Value::Absent;

@@ -61,7 +61,7 @@ fn play<S: Store, I: InstructionSet<S::Item>>(
 
 // Sets every place to null where something was done.
 fn clear_after<E: Element>(done: usize, places: &mut [E])
-    ensures { places.new ≡ left_null (nat_lt 0 done) blank places.old }
+    ensures { places.new ≡ left_null (nat_lt 0 done) E.blank places.old }
 {
     if done > 0 {
         clear(places);

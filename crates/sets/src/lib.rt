@@ -1,4 +1,6 @@
 // The two instruction sets: over levels and over heads.
+#![tactic(auto)]
+
 mod curve;
 mod head_codes;
 pub mod head_set;

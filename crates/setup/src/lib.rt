@@ -1,4 +1,6 @@
 // The setup text, line by line: words, numbers and directives.
+#![tactic(auto)]
+
 pub mod directive;
 mod keyword;
 pub mod line;

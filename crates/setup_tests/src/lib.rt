@@ -1,4 +1,6 @@
 // Setup texts, rows and options, run on examples.
+#![tactic(auto)]
+
 #[cfg(test)]
 mod options;
 #[cfg(test)]

@@ -1,4 +1,6 @@
 // Edges of show files and of decoding, run.
+#![tactic(auto)]
+
 #[cfg(test)]
 mod tests {
     use command::command::Command;

@@ -1,4 +1,6 @@
 // Plays show files on a host that a setup asks for: any kind of element, either store, and up to two layers.
+#![tactic(auto)]
+
 pub mod cells;
 pub mod fault;
 mod memory;

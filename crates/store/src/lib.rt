@@ -1,4 +1,6 @@
 // Cell stores: the interface, and two stores over lent memory.
+#![tactic(auto)]
+
 pub mod access;
 pub mod borrowed;
 pub mod fault;

@@ -16,7 +16,7 @@ fn pairs(list: &[u32]) -> usize
 }
 
 fn read_pair<E: Element>(words: &mut [u32], n: usize) -> Result<E, StoreFault>
-    ensures reads { Reads (elements unpacked words.old) n result (elements unpacked words.new) }
+    ensures reads { Reads (elements E.unpacked words.old) n result (elements E.unpacked words.new) }
     ensures words { words.new ≡ words.old }
 {
     if n < words.len() / 2 {
@@ -30,8 +30,8 @@ fn read_pair<E: Element>(words: &mut [u32], n: usize) -> Result<E, StoreFault>
 }
 
 fn write_pair<E: Element>(words: &mut [u32], n: usize, x: E) -> Result<(), StoreFault>
-    ensures writes { Writes (elements unpacked words.old) n x result (elements unpacked words.new) }
-    ensures words { words.new ≡ rewritten result n (packed x) words.old }
+    ensures writes { Writes (elements E.unpacked words.old) n x result (elements E.unpacked words.new) }
+    ensures words { words.new ≡ rewritten result n (E.packed x) words.old }
 {
     if n < words.len() / 2 {
         let pair = x.pack();
@@ -74,8 +74,8 @@ impl<'a, E: Element> Store for Packed<'a, E> {
     }
 
     fn read(&mut self, n: usize) -> Result<E, StoreFault>
-        ensures reads { Reads (elements unpacked self.old.words.now) n result
-            (elements unpacked self.new.words.now) }
+        ensures reads { Reads (elements E.unpacked self.old.words.now) n result
+            (elements E.unpacked self.new.words.now) }
         ensures lender { self.new.words.ghost_name ∷ [] ≡ self.old.words.ghost_name ∷ [] }
         ensures words { self.new.words.now ≡ self.old.words.now }
     {
@@ -83,10 +83,10 @@ impl<'a, E: Element> Store for Packed<'a, E> {
     }
 
     fn write(&mut self, n: usize, x: E) -> Result<(), StoreFault>
-        ensures writes { Writes (elements unpacked self.old.words.now) n x result
-            (elements unpacked self.new.words.now) }
+        ensures writes { Writes (elements E.unpacked self.old.words.now) n x result
+            (elements E.unpacked self.new.words.now) }
         ensures lender { self.new.words.ghost_name ∷ [] ≡ self.old.words.ghost_name ∷ [] }
-        ensures words { self.new.words.now ≡ rewritten result n (packed x) self.old.words.now }
+        ensures words { self.new.words.now ≡ rewritten result n (E.packed x) self.old.words.now }
     {
         write_pair(self.words, n, x)
     }

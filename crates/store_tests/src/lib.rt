@@ -1,4 +1,6 @@
 // Stores, layers and transfers at work on levels.
+#![tactic(auto)]
+
 #[cfg(test)]
 mod tests;
 #[cfg(test)]

@@ -1,3 +1,5 @@
 // Moving elements between a store and lists: a command's cells, and the rows of swapped cells.
+#![tactic(auto)]
+
 pub mod row;
 pub mod transfer;

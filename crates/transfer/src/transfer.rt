@@ -30,7 +30,7 @@ pub fn read_or_null<S: Store>(store: &mut S, n: usize) -> S::Item
 
 // Value i, or null where the values run short.
 fn value_or_null<E: Element>(values: &[E], i: usize) -> E
-    ensures { result ≡ slice_index_or values.now i blank }
+    ensures { result ≡ slice_index_or values.now i E.blank }
 {
     if i < values.len() {
         values[i]

@@ -1,3 +1,5 @@
 // Refusals and kinds in words.
+#![tactic(auto)]
+
 pub mod reason;
 pub mod refusal;

@@ -22,7 +22,7 @@ impl Message {
 
     // The first four elements of a list, packed.
     pub(crate) fn of<E: Element>(values: &[E]) -> Message
-        ensures { elements result ≡ map packed (take 4 values.now) }
+        ensures { elements result ≡ map E.packed (take 4 values.now) }
     {
         let len = values.len().min(ELEMENTS);
         let mut words = [Words {
@@ -37,7 +37,7 @@ impl Message {
 
     // The elements into the first places, as far as there are places; how many were written.
     pub(crate) fn unpack_into<E: Element>(&self, places: &mut [E]) -> usize
-        ensures places { places.new ≡ laid (map unpacked (elements self.now)) places.old }
+        ensures places { places.new ≡ laid (map E.unpacked (elements self.now)) places.old }
         ensures count { result ≡ min (length (elements self.now)) (length places.old) }
     {
         let count = self.len.min(places.len());

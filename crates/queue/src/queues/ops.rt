@@ -21,7 +21,7 @@ impl Queues {
 
     // Appends the first four values to a port's queue as one message; a port from PORTS on has none, and nothing is done.
     pub fn send<E: Element>(&mut self, port: u8, values: &[E])
-        ensures sent { Sent (queue_at unpacked self.old) (queue_at unpacked self.new) port values.now }
+        ensures sent { Sent (queue_at E.unpacked self.old) (queue_at E.unpacked self.new) port values.now }
         ensures run { LastEight E }
     {
         if port >= PORTS {
@@ -34,8 +34,8 @@ impl Queues {
     // Takes the first message of a port's queue away, and writes its elements into the first places, as far as there are
     // places. An empty queue, and a port from PORTS on, has no elements.
     pub fn receive<E: Element>(&mut self, port: u8, places: &mut [E]) -> Taken
-        ensures queues { Received (queue_at unpacked self.old) (queue_at unpacked self.new) port }
-        ensures given { Given (queue_at unpacked self.old port) places.old places.new result }
+        ensures queues { Received (queue_at E.unpacked self.old) (queue_at E.unpacked self.new) port }
+        ensures given { Given (queue_at E.unpacked self.old port) places.old places.new result }
     {
         if port >= PORTS {
             return Taken {

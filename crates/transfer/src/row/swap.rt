@@ -25,8 +25,8 @@ impl SaveRow {
 
 // The first 16 swapped cells take the elements of a row; cells past these are left alone.
 pub fn swap_in<S: Store>(store: &mut S, swaps: &[usize], row: SaveRow)
-    ensures { Scattered S.Store Item-as-Element store.old store.new
-        (take 16 swaps.now) (row_of Item-as-Element.unpacked row) }
+    ensures { Scattered S.Store S.Item.Element store.old store.new
+        (take 16 swaps.now) (row_of S.Item.Element.unpacked row) }
 {
     let many = swaps.len().min(16);
     for i in (0..many).rev() {
@@ -38,7 +38,7 @@ pub fn swap_in<S: Store>(store: &mut S, swaps: &[usize], row: SaveRow)
 // A row takes the elements of the first 16 swapped cells; cells past these are left out.
 pub fn swap_out<S: Store>(store: &mut S, swaps: &[usize]) -> SaveRow
     ensures store { Unaltered S.Store store.old store.new }
-    ensures row { Saved Item-as-Element (S.Store.cells store.old) (take 16 swaps.now) result }
+    ensures row { Saved S.Item.Element (S.Store.cells store.old) (take 16 swaps.now) result }
 {
     let mut words = [Words {
         first: 0,

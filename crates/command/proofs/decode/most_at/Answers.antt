@@ -6,4 +6,4 @@ pub returns : goal.returns
 unfolding most
 returns c =
     let bs = c.args.bytes.now in
-    c.largest-at.ensures ∙ ap (λ k. largest k (byte_at bs 6) (byte_at bs 7) c.args.i) c.requires.kind
+    c.largest_at.ensures ∙ ap (λ k. largest k (byte_at bs 6) (byte_at bs 7) c.args.i) c.requires.kind

@@ -15,13 +15,13 @@ returns c =
     let xs = c.args.args.now in
     let rs = c.args.results.now in
     let l = c.args.log.now in
-    let r = c.run-levels.result in
-    let did = c.run-levels.ensures in
+    let r = c.run_levels.result in
+    let did = c.run_levels.ensures in
     let cs = requests_of file (length xs) (length rs) in
     let all = all_done r (length (rest file)) (length l) (length xs) (length rs) (rest file) did.answer c.requires.log c.requires.args c.requires.results in
     record {
       kind = record { heads = refl; layers = refl };
-      ran = subst (λ (qs : List Request). RanOn levels level_codes (record {}) c.args.host.now.kept c.run-levels.new.kept c.args.cells.now c.run-levels.new.cells qs l c.run-levels.new.log)
+      ran = subst (λ (qs : List Request). RanOn levels level_codes (record {}) c.args.host.now.kept c.run_levels.new.kept c.args.cells.now c.run_levels.new.cells qs l c.run_levels.new.log)
           (all_done r (length (rest file)) (length l) (length xs) (length rs) cs did.answer c.requires.log c.requires.args c.requires.results) did.ran;
       args = did.args ∙ ap (λ (ps : List ℕ). left_null (some ps) levels.blank xs) all;
       results = did.results ∙ ap (λ (ps : List ℕ). left_null (some ps) levels.blank rs) all;

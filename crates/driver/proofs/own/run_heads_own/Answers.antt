@@ -9,5 +9,5 @@ use Rattle.driver.proofs.own.run_heads_own.Goals as goal
 
 pub returns : goal.returns
 returns c =
-    subst (λ (cs : List Request). RanOn heads head_codes (record {}) c.args.kept.now c.run-heads.new.kept c.args.cells.now c.run-heads.new.cells cs c.args.log.now c.run-heads.new.log)
-    (all_done c.run-heads.result (length (rest c.args.file)) (length c.args.log.now) 8 4 (requests_of c.args.file 8 4) c.run-heads.ensures.answer c.requires (omega arith) (omega arith)) c.run-heads.ensures.ran
+    subst (λ (cs : List Request). RanOn heads head_codes (record {}) c.args.kept.now c.run_heads.new.kept c.args.cells.now c.run_heads.new.cells cs c.args.log.now c.run_heads.new.log)
+    (all_done c.run_heads.result (length (rest c.args.file)) (length c.args.log.now) 8 4 (requests_of c.args.file 8 4) c.run_heads.ensures.answer c.requires (omega arith) (omega arith)) c.run_heads.ensures.ran

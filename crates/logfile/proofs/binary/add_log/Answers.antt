@@ -5,7 +5,7 @@ use Rattle.logfile.proofs.binary.add_log.Goals as goal
 
 pub loop-r-preserved : goal.loop-r-preserved
 loop-r-preserved c =
-    piece_more log_bytes bytes_of _ _ c.args.log.now c.loop-r.r-index _ (λ _ _. refl) c.loop-r-test.true c.in-ok-add-record.ensures
+    piece_more log_bytes bytes_of _ _ c.args.log.now c.loop-r.r-index _ (λ _ _. refl) c.loop-r-test.true c.in_ok-add_record.ensures
     ∙ c.loop-r.invariant
 
 pub returns : goal.returns

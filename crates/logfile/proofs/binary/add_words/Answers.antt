@@ -5,8 +5,8 @@ use Rattle.logfile.proofs.binary.add_words.Goals as goal
 
 pub loop-w-preserved : goal.loop-w-preserved
 loop-w-preserved c =
-    let e = c.in-ok-extend-from-slice.ensures.items in
-    piece_more word_bytes le4 _ _ c.args.words.now c.loop-w.w-index 0 (λ _ _. refl) c.loop-w-test.true (e ∙ ap (λ v. vec_items c.loop-w.out ++ v) c.to-le-bytes.ensures)
+    let e = c.in_ok-extend_from_slice.ensures.items in
+    piece_more word_bytes le4 _ _ c.args.words.now c.loop-w.w-index 0 (λ _ _. refl) c.loop-w-test.true (e ∙ ap (λ v. vec_items c.loop-w.out ++ v) c.to_le_bytes.ensures)
     ∙ c.loop-w.invariant
 
 pub returns : goal.returns

@@ -10,8 +10,8 @@ returns g c =
     let q = request_of c.args.place c.args.bytes.now c.args.args.now c.args.results.now in
     let did = c.command.ensures.commanded in
     record {
-      commanded = plain_commanded st g.S.Item.Element g.I.InstructionSet c.args.kept.now c.keep.result c.args.store c.into-store.result c.args.set c.resume-host.result
-          c.command.new.self q c.command.result c.resume-host.ensures c.keep.ensures c.into-store.ensures did;
-      lender = ap st.lender c.into-store.ensures ∙ (did.lender ∙ ap (λ (h : Host g.row.S.Denot g.row.I.Denot g.row.S-Item.Denot). st.lender h.store) c.resume-host.ensures);
+      commanded = plain_commanded st g.S.Item.Element g.I.InstructionSet c.args.kept.now c.keep.result c.args.store c.into_store.result c.args.set c.resume-host.result
+          c.command.new.self q c.command.result c.resume-host.ensures c.keep.ensures c.into_store.ensures did;
+      lender = ap st.lender c.into_store.ensures ∙ (did.lender ∙ ap (λ (h : Host g.row.S.Denot g.row.I.Denot g.row.S-Item.Denot). st.lender h.store) c.resume-host.ensures);
       cleared = c.command.ensures.cleared;
     }

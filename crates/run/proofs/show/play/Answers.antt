@@ -15,7 +15,7 @@ use Rattle.run.proofs.show.play.Goals as goal
 pub bounds-log-n : goal.bounds-log-n
 bounds-log-n g c =
     let w = c.loop-place.invariant.3 in
-    let it = c.into-iter-place-iterator.result in
+    let it = c.into_iter-place-iterator.result in
     let k = to_come g.S.Store g.S.Item.Element g.I.InstructionSet it.bytes.now (rest it) c.args.host.now c.args.log.now c.args.args.now c.args.results.now
     (rest c.loop-place.place-iterator) (rest c.next.new.self) c.loop-place.n c.in-Some.place c.loop-place.host c.loop-place.log c.loop-place.args c.loop-place.results w c.in-Some.ensures.steps.0 in
     omega (arith, k, w.room, w.long)
@@ -24,15 +24,15 @@ pub loop-place-preserved : goal.loop-place-preserved
 loop-place-preserved g c =
     let was = c.loop-place.invariant in
     let told = c.in-Some.ensures.steps in
-    let it = c.into-iter-place-iterator.result in
+    let it = c.into_iter-place-iterator.result in
     let same = told.2 ∙ ap (λ (bs : List ℕ). record_at bs c.in-Some.place) was.2 in (
       tt,
       tt,
       told.1 ∙ was.2,
       going_more g.S.Store g.S.Item.Element g.I.InstructionSet it.bytes.now (rest it) c.args.host.now c.args.log.now c.args.args.now c.args.results.now
-          (rest c.loop-place.place-iterator) (rest c.next.new.self) c.loop-place.n c.in-Some.place c.loop-place.host c.do-one.new.host c.loop-place.log
-          c.loop-place.args c.loop-place.results c.do-one.new.args c.do-one.new.results c.in-Some.bytes.now c.do-one.new.log
-          c.requires.args c.requires.results was.3 told.0 same c.do-one.ensures (omega arith) (omega arith),
+          (rest c.loop-place.place-iterator) (rest c.next.new.self) c.loop-place.n c.in-Some.place c.loop-place.host c.do_one.new.host c.loop-place.log
+          c.loop-place.args c.loop-place.results c.do_one.new.args c.do_one.new.results c.in-Some.bytes.now c.do_one.new.log
+          c.requires.args c.requires.results was.3 told.0 same c.do_one.ensures (omega arith) (omega arith),
     )
 
 pub returns : goal.returns
@@ -54,7 +54,7 @@ returns g c =
     let s0 = state_of {I = g.row.I.Denot} st el h0 in
     let w : Going st el is c.args.file.bytes.now (rest c.args.file) h0 old a0 r0 left n h1 new c.loop-place.args c.loop-place.results =
     subst (λ (f : ShowFile). Going st el is f.bytes.now (rest f) h0 old a0 r0 left n h1 new c.loop-place.args c.loop-place.results)
-    c.into-iter-place-iterator.ensures.into-iter-gives c.loop-place.invariant.3 in
+    c.into_iter-place-iterator.ensures.into-iter-gives c.loop-place.invariant.3 in
     let full : n ≡ length (rest c.args.file) =
     going_end st el is file.bytes.now (rest file) h0 old a0 r0 left n h1 new c.loop-place.args c.loop-place.results w c.in-None.ensures.steps.0 in
     let all : take n (rest c.args.file) ≡ rest c.args.file = take_all n (rest c.args.file) (omega (arith, full)) in

@@ -10,7 +10,7 @@ step xs i best x next h e n = ap (λ y. highest y (drop (i + 1) xs)) (n ∙ ap (
 
 pub loop-i-preserved : goal.loop-i-preserved
 loop-i-preserved c =
-    step c.args.args.now c.loop-i.i c.loop-i.best c.index-args-i.result _ (search rules) c.index-args-i.is c.higher-of-best.ensures
+    step c.args.args.now c.loop-i.i c.loop-i.best c.index-args-i.result _ (search rules) c.index-args-i.is c.higher_of-best.ensures
     ∙ c.loop-i.invariant
 
 first : (xs : List Level) (a : Level) → a ≡ get_or xs 0 a → ¬ (length xs ≡ 0) → length xs ≤ 8 → Ok (highest a (drop 1 xs)) ≡ top_of xs

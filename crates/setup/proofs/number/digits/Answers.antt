@@ -16,4 +16,4 @@ loop-c-preserved c =
     (omega (arith, c.cap-value.ensures), read_more c.args.base c.loop-c.value c.cap-value.result c.loop-c.c-index c.args.word.now (omega (arith, c.requires)) c.loop-c-test.true e s c.loop-c.invariant.1)
 
 pub returns : goal.returns
-returns c = read_all c.args.base c.loop-c.value c.loop-c.c-index c.args.word.now c.loop-c-test.false c.loop-c.invariant.0 c.loop-c.invariant.1 (filled c.args.word.now c.if-is-empty.ensures)
+returns c = read_all c.args.base c.loop-c.value c.loop-c.c-index c.args.word.now c.loop-c-test.false c.loop-c.invariant.0 c.loop-c.invariant.1 (filled c.args.word.now c.if-is_empty.ensures)

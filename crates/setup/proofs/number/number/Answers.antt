@@ -9,14 +9,14 @@ returns-then-n-most c =
     record {
       value =
           sym (ap (λ t. cond t (Ok c.in-Some.n) (Err (TooLarge c.args.most))) (lt-leb c.in-Some.n c.args.most c.if-n-most.true))
-          ∙ number_told c.args.most c.args.word.now (Some c.in-Some.n) c.if-is-empty.ensures (omega arith) c.in-Some.ensures;
+          ∙ number_told c.args.most c.args.word.now (Some c.in-Some.n) c.if-is_empty.ensures (omega arith) c.in-Some.ensures;
       bound = tt;
     }
 
 pub returns-in-None : goal.returns-in-None
 returns-in-None c =
     record {
-      value = number_told c.args.most c.args.word.now None c.if-is-empty.ensures (omega arith) c.in-None.ensures;
+      value = number_told c.args.most c.args.word.now None c.if-is_empty.ensures (omega arith) c.in-None.ensures;
       bound = tt;
     }
 
@@ -25,6 +25,6 @@ returns-else-n-most c =
     record {
       value =
           sym (ap (λ t. cond t (Ok c.in-Some.n) (Err (TooLarge c.args.most))) (le-leb c.in-Some.n c.args.most c.if-n-most.false))
-          ∙ number_told c.args.most c.args.word.now (Some c.in-Some.n) c.if-is-empty.ensures (omega arith) c.in-Some.ensures;
+          ∙ number_told c.args.most c.args.word.now (Some c.in-Some.n) c.if-is_empty.ensures (omega arith) c.in-Some.ensures;
       bound = c.if-n-most.false;
     }

@@ -5,6 +5,6 @@ use Rattle.setup.proofs.pieces.skip_word.Goals as goal
 
 pub returns : goal.returns
 returns c =
-    take_rest c.trim-rest.result.now c.leading-letters.result
-    ∙ ap (λ n. drop n c.trim-rest.result.now) c.leading-letters.ensures.value
+    take_rest c.trim-rest.result.now c.leading_letters.result
+    ∙ ap (λ n. drop n c.trim-rest.result.now) c.leading_letters.ensures.value
     ∙ ap (λ t. drop (letters t) t) c.trim-rest.ensures

@@ -10,10 +10,10 @@ loop-i-preserved g c =
     let xs = g.S.Store.cells c.args.store.now in
     let h : c.loop-i.i < length (cell_list c.args.cells.now) = omega arith in
     let s = c.loop-i.invariant.0 in (
-      record { cells = c.read-or-null.ensures.store.cells ∙ s.cells; lender = c.read-or-null.ensures.store.lender ∙ s.lender },
-      taken_more (λ n. get_or xs n z) ns c.loop-i.places c.loop-i.i c.read-or-null.result h (omega arith) c.loop-i.invariant.1
-          (c.read-or-null.ensures.value ∙ ap₂ (λ (l : List _) (n : ℕ). get_or l n z) s.cells c.cell.ensures),
-      left_more c.args.places.now c.loop-i.places c.loop-i.i c.read-or-null.result c.loop-i.invariant.2,
+      record { cells = c.read_or_null.ensures.store.cells ∙ s.cells; lender = c.read_or_null.ensures.store.lender ∙ s.lender },
+      taken_more (λ n. get_or xs n z) ns c.loop-i.places c.loop-i.i c.read_or_null.result h (omega arith) c.loop-i.invariant.1
+          (c.read_or_null.ensures.value ∙ ap₂ (λ (l : List _) (n : ℕ). get_or l n z) s.cells c.cell.ensures),
+      left_more c.args.places.now c.loop-i.places c.loop-i.i c.read_or_null.result c.loop-i.invariant.2,
     )
 
 pub returns : goal.returns

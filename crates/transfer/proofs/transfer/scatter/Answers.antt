@@ -12,10 +12,10 @@ loop-i-preserved g c =
     let ns = cell_list c.args.cells.now in
     let e : c.loop-i.i ≡ suc (c.loop-i.i - 1) = omega arith in
     let h : c.loop-i.i ≤ length (cell_list c.args.cells.now) = omega arith in (
-      stored_more g.S.Item.Element.blank c.value-or-null.result ns c.args.values.now (g.S.Store.cells c.args.store.now)
+      stored_more g.S.Item.Element.blank c.value_or_null.result ns c.args.values.now (g.S.Store.cells c.args.store.now)
           (g.S.Store.cells c.loop-i.store) (g.S.Store.cells c.write.new.self) c.loop-i.i (c.loop-i.i - 1) e h
-          (c.write.ensures.writes.stored ∙ ap (λ (n : ℕ). set (g.S.Store.cells c.loop-i.store) n c.value-or-null.result) c.cell.ensures)
-          c.loop-i.invariant.0 c.value-or-null.ensures,
+          (c.write.ensures.writes.stored ∙ ap (λ (n : ℕ). set (g.S.Store.cells c.loop-i.store) n c.value_or_null.result) c.cell.ensures)
+          c.loop-i.invariant.0 c.value_or_null.ensures,
       c.write.ensures.lender ∙ c.loop-i.invariant.1,
     )
 

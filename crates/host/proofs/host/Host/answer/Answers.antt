@@ -30,6 +30,6 @@ returns g c =
     let w : whole q ≡ true = eq-eqb (length c.args.bytes.now) 32 n32 in
     let r : roomy q ≡ true = rooms q c.requires.args c.requires.results in
     let size : length (g.S.Store.cells h.store) ≡ h.sheet.size = omega arith in
-    does_same g.S.Store g.S.Item.Element g.I.InstructionSet h c.answer-record.new.self (λ k t. record_step k c.args.bytes.now t) (λ k t. host_step b k q t) c.answer-record.result
+    does_same g.S.Store g.S.Item.Element g.I.InstructionSet h c.answer_record.new.self (λ k t. record_step k c.args.bytes.now t) (λ k t. host_step b k q t) c.answer_record.result
     (λ m. step_record (making_of {S = g.row.S.Denot} g.S.Item.Element g.I.InstructionSet h m) q s b (eq-eqb _ _ size) w r)
-    c.answer-record.ensures
+    c.answer_record.ensures

@@ -35,7 +35,7 @@ returns-then-args-lt8 g c =
     let b = fits_of {I = g.row.I.Denot} g.S.Store g.S.Item.Element h in
     let r : roomy q ≡ false = no_room q c.then-args-lt8.either in
     let e = λ (m : ℕ → g.row.S-Item.Denot). step_short (making_of {S = g.row.S.Denot} g.S.Item.Element g.I.InstructionSet h m) q s b r in
-    let why = ap (λ (x : Refusal). told (Refused x)) c.short-of.ensures ∙ told_short (whole q) in
+    let why = ap (λ (x : Refusal). told (Refused x)) c.short_of.ensures ∙ told_short (whole q) in
     record {
       commanded = commanded g.S.Store g.S.Item.Element g.I.InstructionSet h h q c.logged.result
           (λ m. c.logged.ensures ∙ (ap (logs q) why ∙ sym (ap (λ (t : Step g.row.S-Item.Denot (State g.row.S-Item.Denot)). record_of g.S.Item.Element.packed (entry q t.answer)) (e m))))

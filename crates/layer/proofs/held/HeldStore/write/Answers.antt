@@ -27,20 +27,20 @@ returns g c =
     let st = g.S.Store in
     let el = g.S.Item.Element in
     let x = c.args.self.now in
-    let m = c.make-room.new.self in
+    let m = c.make_room.new.self in
     let n = c.args.n in
     let l = layer_of st x in
     let ws = held_in x.table in
     let within : c.args.n < length (g.S.Store.cells c.args.self.now.below) = omega arith in
-    let down = sends_cells st el x.below (take (outgoing n ws) ws) m.below c.make-room.ensures.below in
+    let down = sends_cells st el x.below (take (outgoing n ws) ws) m.below c.make_room.ensures.below in
     let held : held_in c.put.new.self ≡ (holding el l n c.args.x).held =
-    c.put.ensures ∙ ap₂ (λ (vs : List HeldWrite) (w : Words). placed vs (record { cell = n; words = w })) c.make-room.ensures.held c.pack-words.ensures in
+    c.put.ensures ∙ ap₂ (λ (vs : List HeldWrite) (w : Words). placed vs (record { cell = n; words = w })) c.make_room.ensures.held c.pack-words.ensures in
     let step : layer_of st (record { below = m.below; table = c.put.new.self }) ≡ layer_after el l (Write n c.args.x) =
     ap₂ (λ (b : List _) (h : List HeldWrite). record { below = b; held = h }) down held
     ∙ sym (cond-true (ltb n (length l.below)) (holding el l n c.args.x) l (lt-ltb n (length l.below) within)) in
     record {
       writes = writes_within (meant st el x) _ n c.args.x (omega (arith, length-meaning g.S.Item.Element (layer_of g.S.Store c.args.self.now)))
           (ap (meaning el) step ∙ after_right el g.met.S.Item.Element.round l (Write n c.args.x) x.table.distinct);
-      lender = sends_lender st el x.below (take (outgoing n ws) ws) m.below c.make-room.ensures.below;
-      layer = record { layer = step; below = c.make-room.ensures.below };
+      lender = sends_lender st el x.below (take (outgoing n ws) ws) m.below c.make_room.ensures.below;
+      layer = record { layer = step; below = c.make_room.ensures.below };
     }

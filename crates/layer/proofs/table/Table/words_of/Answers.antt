@@ -6,8 +6,8 @@ use Rattle.layer.specs.Layers.{held_in}
 use Rattle.layer.proofs.Holding.{held_below, held_for_at, held_for_none}
 use Rattle.layer.proofs.table.Table.words_of.Goals as goal
 
-pub offset-bounds-self-i : goal.offset-bounds-self-i
-offset-bounds-self-i c =
+pub offset_bounds-self-i : goal.offset_bounds-self-i
+offset_bounds-self-i c =
     let t = c.args.self.now in
     omega (arith, held_below c.args.n c.in-Some.i t.count 16 t.writes c.in-Some.ensures t.few)
 

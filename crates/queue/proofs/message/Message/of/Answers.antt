@@ -17,8 +17,8 @@ loop-i-preserved g c =
       length-set ws i w ∙ c.loop-i.invariant.1,
     )
 
-pub invariant-of-result : goal.invariant-of-result
-invariant-of-result g c = (omega arith, (c.loop-i.invariant.1, tt))
+pub invariant_of-result : goal.invariant_of-result
+invariant_of-result g c = record { fits = omega arith; whole = c.loop-i.invariant.1 }
 
 pub returns : goal.returns
 returns g c =

@@ -21,7 +21,7 @@ returns-else-n-lt-MESSAGES c =
     let f : 7 < length q.items = omega arith in
     let f' : q.len ≤ length q.items = omega arith in
     let l : 8 ≤ length (map elements (take q.len q.items)) = rw (front_length elements q.items q.len f') (omega arith) in
-    let t : map elements (take q.len (set c.rotate-left.new.self 7 c.args.message)) ≡ drop 1 (map elements (take q.len q.items)) ++ elements c.args.message ∷ [] =
-    rw (e, c.rotate-left.ensures.after) (front_shift elements q.items 7 c.args.message f) in
-    ap₂ (λ (ms : List (List Words)) (n : ℕ). record { messages = ms; missed = n }) t c.one-more-self.ensures
+    let t : map elements (take q.len (set c.rotate_left.new.self 7 c.args.message)) ≡ drop 1 (map elements (take q.len q.items)) ++ elements c.args.message ∷ [] =
+    rw (e, c.rotate_left.ensures.after) (front_shift elements q.items 7 c.args.message f) in
+    ap₂ (λ (ms : List (List Words)) (n : ℕ). record { messages = ms; missed = n }) t c.one_more-self.ensures
     ∙ sym (appended_full (elements c.args.message) (messages_of q) l)

@@ -14,7 +14,7 @@ returns c =
     let e : q.len - 1 + 1 ≡ q.len = omega arith in
     record {
       after = ap (λ (ms : List (List Words)). record { messages = ms; missed = 0 })
-          (ap (λ xs. map elements (take (q.len - 1) xs)) c.rotate-left.ensures.after ∙ front_pop elements q.items (q.len - 1) k
+          (ap (λ xs. map elements (take (q.len - 1) xs)) c.rotate_left.ensures.after ∙ front_pop elements q.items (q.len - 1) k
           ∙ ap (λ (n : ℕ). drop 1 (map elements (take n q.items))) e);
       message = front_first elements q.items q.len c.index-self-0.result [] p f ∙ first_is (map elements (take q.len q.items));
       missed = refl;

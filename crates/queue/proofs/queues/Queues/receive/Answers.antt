@@ -35,9 +35,9 @@ returns g c =
     record {
       queues = received_all o (queue_at u (record { queues = set qs i c.take-first.new.self })) i
           (fun_ext (λ y. changed u c.args.self.now i c.take-first.new.self taken taken c.if-port-ge-PORTS.false h (c.take-first.ensures.after ∙ ap taken at_i) (unpacked_taken u) y));
-      given = given (o i) c.args.places.now c.unpack-into-count.new.places (record { count = c.unpack-into-count.result; missed = c.take-first.result.missed })
-          (c.unpack-into-count.ensures.places ∙ ap (λ (xs : List _). laid xs c.args.places.now) e)
-          (c.unpack-into-count.ensures.count ∙ ap (λ (k : ℕ). min k (length c.args.places.now)) n)
+      given = given (o i) c.args.places.now c.unpack_into-count.new.places (record { count = c.unpack_into-count.result; missed = c.take-first.result.missed })
+          (c.unpack_into-count.ensures.places ∙ ap (λ (xs : List _). laid xs c.args.places.now) e)
+          (c.unpack_into-count.ensures.count ∙ ap (λ (k : ℕ). min k (length c.args.places.now)) n)
           (c.take-first.ensures.missed ∙ ap (λ (q : Queue Words). q.missed) at_i)
           (omega (arith, n, length-take m.len m.words, m.fits));
     }

@@ -14,8 +14,8 @@ returns-clause-writes g c = λ p ok.
     let ns = cell_list c.args.self.now.bytes.now in
     let some : eqb (length ns) 0 ≡ false = ne_eqb (length ns) 0 (λ e. c.if-count-eq0.false (c.count.ensures ∙ e)) in
     subst (λ bs. HasWritten {W = g.row.W.Denot} g.W.Write.write_str_gives c.args.f.now bs c.write.new.self)
-    (listed c.args.self.now.word.now ns c.number-at-n0.result.0 c.number-at-n1.result.0 c.number-at-n2.result.0 c.number-at-n3.result.0
-    c.number-at-n4.result.0 c.number-at-n5.result.0 c.number-at-n6.result.0 c.number-at-n7.result.0 some
-    c.number-at-n0.ensures c.number-at-n1.ensures c.number-at-n2.ensures c.number-at-n3.ensures
-    c.number-at-n4.ensures c.number-at-n5.ensures c.number-at-n6.ensures c.number-at-n7.ensures)
+    (listed c.args.self.now.word.now ns c.number_at-n0.result.0 c.number_at-n1.result.0 c.number_at-n2.result.0 c.number_at-n3.result.0
+    c.number_at-n4.result.0 c.number_at-n5.result.0 c.number_at-n6.result.0 c.number_at-n7.result.0 some
+    c.number_at-n0.ensures c.number_at-n1.ensures c.number_at-n2.ensures c.number_at-n3.ensures
+    c.number_at-n4.ensures c.number_at-n5.ensures c.number_at-n6.ensures c.number_at-n7.ensures)
     (c.write.ensures.writes p ok)

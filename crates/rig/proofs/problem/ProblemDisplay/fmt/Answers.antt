@@ -14,4 +14,4 @@ returns-in-Beyond-clause-writes g c = λ p ok. rw c.in-Beyond.is (c.write-in-Bey
 
 pub returns-in-Sheet-clause-writes : goal.returns-in-Sheet-clause-writes
 returns-in-Sheet-clause-writes g c =
-    λ p ok. rw (c.in-Sheet.is, ← c.number-number.ensures, ← c.sheet-reason-reason.ensures) (c.write-in-Sheet.ensures.writes p ok)
+    λ p ok. rw (c.in-Sheet.is, ← c.number-number.ensures, ← c.sheet_reason-reason.ensures) (c.write-in-Sheet.ensures.writes p ok)

@@ -8,7 +8,7 @@ returns c = record {
   faults = level_faults;
   scales = λ a b. ap (λ (n : ℕ). Ok (n ∷ [])) (fact.scaled_exact a b);
   curves = λ v. ap (λ (n : ℕ). Ok (n ∷ [])) (fact.scaled_exact v v);
-  fades = λ a b t. ap (λ (n : ℕ). Ok (n ∷ [])) (fact.faded-exact a b t);
+  fades = λ a b t. ap (λ (n : ℕ). Ok (n ∷ [])) (fact.faded_exact a b t);
   raises = λ v. ap (λ (n : ℕ). Ok (n ∷ [])) (omega (arith, v.byte));
   tops = fact.tops;
   dims = fact.scaled_under;
@@ -16,5 +16,5 @@ returns c = record {
   sags = λ v. (fact.scaled_under v v).0;
   starts = fact.starts;
   ends = fact.ends;
-  between = fact.faded-between;
+  between = fact.faded_between;
 }

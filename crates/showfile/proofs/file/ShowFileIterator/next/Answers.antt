@@ -9,6 +9,6 @@ returns c =
     let f = c.args.self.now in
     let bs = f.bytes.now in
     record {
-      steps = (links_less bs f.at f.left (omega arith) ∙ ap (λ j. j ∷ links bs j (f.left - 1)) (sym c.next-index-at.ensures), refl, c.record-at.ensures);
+      steps = (links_less bs f.at f.left (omega arith) ∙ ap (λ j. j ∷ links bs j (f.left - 1)) (sym c.next_index-at.ensures), refl, c.record_at.ensures);
       goes = firm ((tt, tt, omega arith)) (λ h. search rules);
     }

@@ -8,15 +8,15 @@ use Rattle.transfer.proofs.row.swap.swap_in.Goals as goal
 pub loop-i-init : goal.loop-i-init
 loop-i-init g c =
     let sw = take 16 c.args.swaps.now in (
-      stored_none g.Item.Element.blank sw (row_of g.Item.Element.unpacked c.args.row) (g.S.Store.cells c.args.store.now) _
+      stored_none g.S.Item.Element.blank sw (row_of g.S.Item.Element.unpacked c.args.row) (g.S.Store.cells c.args.store.now) _
           (omega (arith, length-take 16 c.args.swaps.now)),
       refl,
     )
 
 pub loop-i-preserved : goal.loop-i-preserved
 loop-i-preserved g c =
-    let z = g.Item.Element.blank in
-    let u = g.Item.Element.unpacked in
+    let z = g.S.Item.Element.blank in
+    let u = g.S.Item.Element.unpacked in
     let swaps = c.args.swaps.now in
     let sw = take 16 c.args.swaps.now in
     let ws = c.args.row.words in
@@ -34,9 +34,9 @@ loop-i-preserved g c =
 
 pub returns : goal.returns
 returns g c =
-    let z = g.Item.Element.blank in
+    let z = g.S.Item.Element.blank in
     let sw = take 16 c.args.swaps.now in
-    let vs = row_of g.Item.Element.unpacked c.args.row in
+    let vs = row_of g.S.Item.Element.unpacked c.args.row in
     let xs = g.S.Store.cells c.args.store.now in
     let all = stored_all z sw vs xs (g.S.Store.cells c.loop-i.store) c.loop-i.i (omega arith) c.loop-i.invariant.0 in
     record { cells = all; each = each_all z sw vs xs (g.S.Store.cells c.loop-i.store) all; lender = c.loop-i.invariant.1 }

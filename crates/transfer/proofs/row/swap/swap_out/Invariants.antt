@@ -6,6 +6,6 @@ use Rattle.transfer.proofs.row.swap.swap_out.Given as goal
 abbrev pub invariant-loop-i : goal.invariant-loop-i
 invariant-loop-i g l =
     Unaltered g.S.Store l.initial.store l.store
-    × (take l.i l.words ≡ map (λ n. g.Item.Element.packed (get_or (g.S.Store.cells l.initial.store) n g.Item.Element.blank)) (take l.i (take 16 l.swaps)))
+    × (take l.i l.words ≡ map (λ n. g.S.Item.Element.packed (get_or (g.S.Store.cells l.initial.store) n g.S.Item.Element.blank)) (take l.i (take 16 l.swaps)))
     × (drop l.i l.words ≡ drop l.i (replicate 16 (pair 0 0)))
     × (length l.words ≡ 16)
