@@ -1,5 +1,5 @@
 -- Lists of a few places, all of which are set. Assumes nothing.
-use Rattle.std.proofs.Common.{◌≡◌, ℕ, List, [], ◌∷◌, length, set, refl, ap, arith}
+use Rattle.std.proofs.Common.{◌≡◌, List, [], ◌∷◌, length, set, ap, arith}
 
 pub all_four : {E : Type 0} (xs : List E) (y z : E) → length xs ≡ 4 → y ≡ z → set (set (set (set xs 0 y) 1 y) 2 y) 3 y ≡ z ∷ (z ∷ (z ∷ (z ∷ [])))
 all_four [] y z long same = absurd (omega (arith, long))

@@ -1,5 +1,5 @@
 -- A colour comes back from its word. Assumes nothing.
-use Rattle.std.specs.Prelude.{◌≡◌, ℕ, ◌+◌, ◌*◌, ◌/◌, ◌%◌, ◌^◌, ◌<◌, Bool, true, false, cond, ◌&&◌, nat_eq, nat_lt, refl}
+use Rattle.std.specs.Prelude.{◌≡◌, ℕ, ◌+◌, ◌*◌, ◌/◌, ◌%◌, ◌<◌, Bool, true, false, ◌&&◌, nat_eq, nat_lt, refl}
 use Rattle.std.proofs.Common.{ap, arith, ltb-true, eq-eqb, ne_eqb}
 use Rattle.element.specs.declared.colour.Colour.{Colour}
 use Rattle.element.specs.declared.colour.Colour.TheVariants.{Open, Slot, Mix}

@@ -1,5 +1,5 @@
 -- The parts of a colour are bytes. Assumes nothing.
-use Rattle.std.specs.Prelude.{◌≡◌, ℕ, ◌%◌, ◌<◌, Bool, true, ◌&&◌, nat_lt, refl}
+use Rattle.std.specs.Prelude.{◌≡◌, ◌%◌, Bool, true, ◌&&◌, nat_lt, refl}
 use Rattle.std.proofs.Common.{arith, lt-ltb}
 use Rattle.element.specs.declared.colour.Colour.{Colour}
 use Rattle.element.specs.declared.colour.Colour.TheVariants.{Open, Slot, Mix}

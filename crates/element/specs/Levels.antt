@@ -1,5 +1,5 @@
 -- Levels, and how they pack. Assumes nothing.
-use Rattle.std.specs.Prelude.{ℕ, ◌%◌, ◌<◌}
+use Rattle.std.specs.Prelude.{ℕ, ◌%◌}
 use Rattle.std.proofs.Common.{arith}
 use Rattle.element.specs.declared.words.Words.{Words}
 use Rattle.element.specs.declared.level.Level.{Level}

@@ -1,5 +1,5 @@
 -- Two elements with equal parts are equal: a bound has one proof. Assumes nothing.
-use Rattle.std.specs.Prelude.{◌≡◌, ℕ, ◌<◌, Bool, true}
+use Rattle.std.specs.Prelude.{◌≡◌, ◌<◌, true}
 use mathlib.Core.HLevel.{is_prop→PathP}
 use Rattle.std.proofs.Math.Bridge.{le_prop}
 use base.Stored.{Coded-set, coded_bool}

@@ -54,7 +54,7 @@ returns g c =
     let s0 = state_of {I = g.row.I.Denot} st el h0 in
     let w : Going st el is c.args.file.bytes.now (rest c.args.file) h0 old a0 r0 left n h1 new c.loop-place.args c.loop-place.results =
     subst (λ (f : ShowFile). Going st el is f.bytes.now (rest f) h0 old a0 r0 left n h1 new c.loop-place.args c.loop-place.results)
-    c.into_iter-place-iterator.ensures.into-iter-gives c.loop-place.invariant.3 in
+    c.into_iter-place-iterator.ensures.into_iter_gives c.loop-place.invariant.3 in
     let full : n ≡ length (rest c.args.file) =
     going_end st el is file.bytes.now (rest file) h0 old a0 r0 left n h1 new c.loop-place.args c.loop-place.results w c.in-None.ensures.steps.0 in
     let all : take n (rest c.args.file) ≡ rest c.args.file = take_all n (rest c.args.file) (omega (arith, full)) in
