@@ -29,7 +29,7 @@ pub(crate) fn show(rt: &HostRuntime, path: &str) -> Result<(), Fault> {
     let bytes = read::show(rt, path)?;
     match ShowFile::open(bytes.as_slice()) {
         Ok(file) => {
-            let mut out = BufWriter::new(rt.stdout());
+            let mut out = BufWriter::new(rt.alloc(), rt.stdout())?;
             lines(&mut out, file)?;
             Ok(out.flush()?)
         }

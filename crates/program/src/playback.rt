@@ -57,7 +57,7 @@ fn perform(rt: &HostRuntime, words: Vec<String>) -> Result<(), Fault> {
     if let Some(path) = &options.log {
         print::save(rt, path.as_str(), session.logs.as_slice())?;
     }
-    let mut out = BufWriter::new(rt.stdout());
+    let mut out = BufWriter::new(rt.alloc(), rt.stdout())?;
     print::whole(
         &mut out,
         options.shows.as_slice(),

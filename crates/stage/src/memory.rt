@@ -20,7 +20,7 @@ pub(crate) fn nulls<E: Element>(heap: Global, n: usize) -> Result<Vec<E>, AllocE
 
 // The elements of these words, for the flat store.
 pub(crate) fn unpacked<E: Element>(heap: Global, words: &[Words]) -> Result<Vec<E>, AllocError>
-    ensures { IfOk result (λ v. v.items ≡ map unpacked words.now) }
+    ensures { IfOk result (λ v. v.items ≡ map E.unpacked words.now) }
 {
     let mut cells = Vec::new(heap);
     for w in words {
