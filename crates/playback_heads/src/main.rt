@@ -1,9 +1,13 @@
 // Plays show files on a host made from a setup text.
 #![tactic(auto)]
 
-use console::fault::Fault;
 use program::playback::playback;
+use std::process::ExitCode;
 
-fn main(rt: HostRuntime) -> Result<(), Fault> {
-    playback(&rt)
+// A fault is told by the program; the status says that there was one.
+fn main(rt: HostRuntime) -> ExitCode {
+    match playback(&rt) {
+        Ok(()) => ExitCode::SUCCESS,
+        Err(_) => ExitCode::FAILURE,
+    }
 }
