@@ -1,8 +1,8 @@
 -- What records of each kind of work ask, and the outcomes of decoding, each exactly under its condition. Assumes nothing.
-use Rattle.std.proofs.Common.{◌≡◌, ℕ, ◌<◌, ◌≤◌, true, false, List, length, Ok, Err, Result, sym, refl, ap, ◌∙◌, subst, ⊎_elim, arith}
+use Rattle.std.proofs.Common.{◌≡◌, ℕ, List, Ok, Err, Result, sym, refl, ap, ◌∙◌, subst, ⊎_elim, arith}
 use Rattle.std.proofs.lemmas.Bool.{cases_order, both_ways}
 use Rattle.cells.specs.Cells.{cell_list}
-use Rattle.command.specs.Shape.{byte_at, kind_of, known, arg_bytes, result_bytes}
+use Rattle.command.specs.Shape.{byte_at, kind_of, arg_bytes, result_bytes}
 use Rattle.command.specs.Order.{work, instruct, send, receive, asked}
 use Rattle.command.specs.Decoding.{Lowest, Asks, Decodes, Cases}
 use Rattle.command.specs.declared.command.Command.{Command}

@@ -1,10 +1,10 @@
 -- The shape of a record, byte by byte. Assumes nothing.
-use Rattle.std.proofs.Common.{◌≡◌, ℕ, zero, suc, ◌+◌, ◌-◌, ◌*◌, ◌/◌, ◌<◌, ◌≤◌, Bool, true, false, cond, ◌&&◌, eqb, ltb, leb, ◌⊎◌, ◌↔◌, List, length, take, drop, sym, refl, ap, ◌∙◌, subst, inl, inr, ⊎_elim, add-one, arith, length-take}
-use Rattle.std.proofs.lemmas.Bool.{cases_lt, cases_eq, cases_order, cases_Bool, le-leb, lt-leb, lt-ltb, le-ltb, ne_eqb, eq-eqb}
+use Rattle.std.proofs.Common.{◌≡◌, ℕ, zero, suc, ◌+◌, ◌*◌, ◌<◌, ◌≤◌, true, false, cond, ◌&&◌, eqb, ltb, ◌⊎◌, ◌↔◌, List, length, take, drop, sym, refl, ap, ◌∙◌, subst, inl, inr, ⊎_elim, arith, length-take}
+use Rattle.std.proofs.lemmas.Bool.{cases_lt, cases_eq, le-leb, lt-leb, lt-ltb, le-ltb, ne_eqb, eq-eqb}
 use Rattle.std.proofs.lemmas.Bool.Decides.{nat_tests}
 use Rattle.cells.specs.Cells.{cell_list}
 use Rattle.command.specs.Shape.{byte_at, kind_of, known, takes_port, arg_limit, result_limit, arg_bytes, result_bytes, largest, most, Fault}
-use Rattle.command.specs.Order.{Order, malformed, restore, save, work, instruct, send, receive, asked, shaped, decoded, ordered}
+use Rattle.command.specs.Order.{Order, malformed, asked, shaped, decoded, ordered}
 use Rattle.command.specs.Decoding.{Uses, code, port, arg_count, result_count, arg_cell, result_cell, Shaped, Lowest}
 use Rattle.cells.proofs.CellLists.{length-cells}
 

@@ -1,5 +1,5 @@
 -- What the words of the command line ask. Assumes nothing.
-use Rattle.std.specs.Prelude.{ℕ, cond, List, [], ◌∷◌, Some, None, Ok, Err, vec_items, string_bytes, Option, Result, String}
+use Rattle.std.specs.Prelude.{ℕ, List, [], ◌∷◌, Some, None, Ok, Err, vec_items, string_bytes, Option, Result, String}
 use Rattle.std.specs.declared.alloc.Global.{Global}
 use Rattle.setup.specs.declared.problem.LineProblem.{LineProblem}
 use Rattle.setup.specs.Numbers.{number_up_to}

@@ -1,5 +1,5 @@
 -- The examples of chains. Assumes nothing.
-use Rattle.std.proofs.Common.{◌≡◌, ℕ, zero, suc, ◌<◌, ◌≤◌, List, ◌∷◌, ◌++◌, get_or, replicate, refl, arith, lit<, lit≤}
+use Rattle.std.proofs.Common.{◌≡◌, ℕ, zero, suc, ◌<◌, List, ◌∷◌, ◌++◌, get_or, replicate, refl, arith, lit<, lit≤}
 use Rattle.showfile.specs.Chain.{Link, here, onward, Sized, Clean}
 use Rattle.showfile.proofs.Cycle.{place, endless}
 use Rattle.examples.specs.Examples.{three, Refuses}

@@ -1,11 +1,10 @@
 -- Worked examples of the two sets. Assumes nothing.
-use Rattle.std.specs.Prelude.{◌≡◌, ℕ, List, [], ◌∷◌, map, Ok, Err, Result}
+use Rattle.std.specs.Prelude.{◌≡◌, ℕ, List, [], ◌∷◌, map, Ok, Result}
 use Rattle.element.specs.declared.colour.Colour.TheVariants.{Open}
 use Rattle.element.specs.declared.head.Head.{Head}
 use Rattle.element.specs.Levels.{level}
 use Rattle.element.specs.Heads.{head}
 use Rattle.instruction.specs.declared.fault.SetFault.{SetFault}
-use Rattle.instruction.specs.declared.fault.SetFault.TheVariants.{UnknownCode, WrongCount}
 use Rattle.sets.specs.Takes.{onto}
 use Rattle.sets.specs.LevelMeaning.{level_meaning}
 use Rattle.sets.specs.HeadMeaning.{head_meaning}

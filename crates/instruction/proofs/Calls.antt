@@ -1,9 +1,9 @@
 -- A call case by case. Assumes nothing.
-use Rattle.std.proofs.Common.{◌≡◌, ℕ, ◌<◌, ◌≤◌, List, [], ◌∷◌, ◌++◌, length, take, drop, Ok, Err, Result, sym, refl, ap, ◌∙◌, arith}
+use Rattle.std.proofs.Common.{◌≡◌, ℕ, ◌≤◌, List, [], ◌∷◌, ◌++◌, length, take, drop, Ok, Err, Result, sym, refl, ap}
 use Rattle.std.proofs.lemmas.Bool.{lt-ltb, le-ltb}
 use Rattle.instruction.specs.declared.fault.SetFault.{SetFault}
 use Rattle.instruction.specs.declared.fault.SetFault.TheVariants.{FewPlaces}
-use Rattle.instruction.specs.Outcomes.{lent, counted, laid, Called, Stands, Applied}
+use Rattle.instruction.specs.Outcomes.{counted, laid, Called, Stands, Applied}
 
 take_exact : {W : Type 0} (ws vs : List W) → take (length ws) (ws ++ vs) ≡ ws
 take_exact [] vs = refl

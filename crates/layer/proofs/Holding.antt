@@ -1,9 +1,8 @@
-use Rattle.std.proofs.Common.{◌≡◌, ℕ, zero, suc, ◌+◌, ◌-◌, ◌<◌, ◌≤◌, Bool, true, false, cond, not, ◌&&◌, eqb, ◌≢◌, List, [], ◌∷◌, ◌++◌, length, get_or, take, drop, set, Some, None, Ok, Err, Option, Result, sym, refl, ap, ◌∙◌, inl, inr, arith, length-set, length-take}
+use Rattle.std.proofs.Common.{◌≡◌, ℕ, zero, suc, ◌+◌, ◌-◌, ◌<◌, ◌≤◌, true, false, not, eqb, List, [], ◌∷◌, ◌++◌, length, get_or, take, drop, set, Some, None, Ok, sym, refl, ap, ◌∙◌, inl, inr, arith, length-set, length-take}
 use Rattle.element.specs.Pairs.{pair}
 use Rattle.element.specs.declared.words.Words.{Words}
 use Rattle.std.proofs.lemmas.List.{take_more_set, take-append-le, set-set, set_comm}
 use Rattle.std.proofs.lemmas.Bool.{and_parts, and_from, and_left, and_right, eqb-true, eqb-false, eq-eqb, ne_eqb, not-true, not_from_true, not_from_false, cond_both, cond-true, cond-false, cases_eq}
-use Rattle.store.specs.declared.fault.StoreFault.{StoreFault}
 use Rattle.store.specs.Meaning.{element}
 use Rattle.store.proofs.Within.{element_set_same, element_set_other}
 use Rattle.layer.specs.declared.held_write.HeldWrite.{HeldWrite}

@@ -1,5 +1,5 @@
 -- A layer as lists answers as the list that it means.
-use Rattle.std.proofs.Common.{◌≡◌, ℕ, ◌<◌, ◌≤◌, true, false, cond, ltb, List, [], ◌∷◌, length, take, drop, set, Some, None, Ok, Err, Option, Result, sym, refl, ap, ◌∙◌, ap₂, inl, inr, arith}
+use Rattle.std.proofs.Common.{◌≡◌, ℕ, ◌<◌, true, false, cond, ltb, List, [], ◌∷◌, length, take, drop, set, Some, None, Ok, Err, Option, sym, refl, ap, ◌∙◌, ap₂, inl, inr, arith}
 use Rattle.std.proofs.lemmas.List.{set_past}
 use Rattle.std.proofs.lemmas.Bool.{lt-ltb, le-ltb, cases_lt, cond-true, cond-false}
 use Rattle.element.specs.declared.element.Element.{Ghosts as Elements}
@@ -7,13 +7,11 @@ use Rattle.element.specs.declared.words.Words.{Words}
 use Rattle.store.specs.declared.access.Access.{Access}
 use Rattle.store.specs.declared.access.Access.TheVariants.{Read, Write}
 use Rattle.store.specs.declared.access.Answer.{Answer}
-use Rattle.store.specs.declared.fault.StoreFault.{StoreFault}
 use Rattle.store.specs.declared.fault.StoreFault.TheVariants.{Beyond}
-use Rattle.store.specs.Meaning.{element, accepted}
+use Rattle.store.specs.Meaning.{element}
 use Rattle.store.specs.Sequences.{of_read, of_write, answer, after, answers, after_all}
 use Rattle.store.proofs.Within.{element_beyond}
-use Rattle.layer.specs.declared.held_write.HeldWrite.{HeldWrite}
-use Rattle.layer.specs.Holds.{absent, apart, held_for, placed, outgoing, laid}
+use Rattle.layer.specs.Holds.{apart, held_for, outgoing, laid}
 use Rattle.layer.specs.Layers.{Layer, Call, ask, flushing, fresh, asked, meaning, looked, layer_element, holding, flushed, layer_after, layer_answer, layer_answers, layer_after_all, Transparent}
 use Rattle.layer.proofs.Holding.{length-laid, laid_placed, laid_parts, apart_placed, apart_drop, none_absent, element_absent, element_held}
 

@@ -1,10 +1,10 @@
 -- What writes that go down make of the store below.
-use Rattle.std.proofs.Common.{◌≡◌, ◌<◌, List, [], ◌∷◌, length, take, drop, sym, refl, ap, ◌∙◌, subst, arith}
+use Rattle.std.proofs.Common.{◌≡◌, ◌<◌, List, [], ◌∷◌, length, take, drop, ap, ◌∙◌, subst, arith}
 use Rattle.element.specs.declared.element.Element.{Ghosts as Elements}
 use Rattle.store.specs.declared.store.Store.{Ghosts as Stores}
 use Rattle.layer.specs.declared.held_write.HeldWrite.{HeldWrite}
 use Rattle.layer.specs.Holds.{laid}
-use Rattle.layer.specs.Steps.{Carried, Sends}
+use Rattle.layer.specs.Steps.{Sends}
 
 module _ {S E : Type 0} (st : Stores S E) (el : Elements E) where
   pub sends_cells : (x : S) (ws : List HeldWrite) (z : S) → Sends st el x ws z → st.cells z ≡ laid el.unpacked (st.cells x) ws

@@ -1,5 +1,5 @@
 -- Lists of held writes, the longest-held first. Assumes nothing.
-use Rattle.std.specs.Prelude.{◌≡◌, ℕ, zero, suc, Bool, true, false, cond, not, ◌&&◌, List, [], ◌∷◌, length, Some, None, Option, ◌==◌, ◌≢◌, slice_set}
+use Rattle.std.specs.Prelude.{◌≡◌, ℕ, zero, suc, Bool, true, cond, not, ◌&&◌, List, [], ◌∷◌, length, Some, None, Option, ◌==◌, ◌≢◌, slice_set}
 use Rattle.element.specs.declared.words.Words.{Words}
 use Rattle.layer.specs.declared.held_write.HeldWrite.{HeldWrite}
 

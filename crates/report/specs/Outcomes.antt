@@ -1,5 +1,5 @@
 -- What a command was answered, in words. The text of an element is that of its kind, where the kind says. Assumes nothing.
-use Rattle.std.specs.Prelude.{ℕ, ◌+◌, ◌*◌, cond, List, [], ◌++◌, Some, None, codes, decimal, Option, ◌==◌, nat_lt, slice_index}
+use Rattle.std.specs.Prelude.{ℕ, ◌+◌, ◌*◌, cond, List, [], ◌++◌, Some, codes, decimal, Option, ◌==◌, nat_lt, slice_index}
 use Rattle.std.specs.Fmt.{option_append}
 use Rattle.element.specs.Pairs.{pair}
 use Rattle.element.specs.declared.words.Words.{Words}

@@ -1,5 +1,5 @@
 -- The end of a setup text. Assumes nothing.
-use Rattle.std.proofs.Common.{◌≡◌, ℕ, true, eqb, List, [], ◌∷◌, length, Ok, Err, Result, sym, ap, ◌∙◌, arith}
+use Rattle.std.proofs.Common.{◌≡◌, ℕ, true, eqb, List, [], ◌∷◌, length, Ok, Result, sym, ap, ◌∙◌, arith}
 use Rattle.std.proofs.lemmas.Bool.{eqb-true}
 use Rattle.setup.specs.Pieces.{lines_of}
 use Rattle.rig.specs.Plans.{Plan, Rig, Place, Trouble, ended, then_at, carried}

@@ -1,10 +1,8 @@
 -- What the code's values stand for. Assumes nothing.
-use Rattle.std.specs.Prelude.{ℕ, Ok, Err, Result}
+use Rattle.std.specs.Prelude.{Ok, Err, Result}
 use Rattle.std.specs.Option.{option_map}
 use Rattle.port.specs.Sets as ports
-use Rattle.sheet.specs.Rows.{Rows}
 use Rattle.sheet.specs.View as sheets
-use Rattle.sheet.specs.declared.sheet.Sheet.{Sheet}
 use Rattle.rig.specs.declared.draft.Draft.{Draft}
 use Rattle.rig.specs.declared.setup.Setup.{Setup}
 use Rattle.rig.specs.declared.problem.Problem.{Problem}

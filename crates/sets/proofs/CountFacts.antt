@@ -1,9 +1,8 @@
 -- Faults come by the tables of counts. Assumes nothing.
-use Rattle.std.proofs.Common.{◌≡◌, ℕ, suc, ◌+◌, ◌<◌, ◌≤◌, Bool, true, false, cond, eqb, ltb, List, [], ◌∷◌, length, Some, None, Ok, Err, Option, Result, refl, arith, ltb-false, ltb-true}
+use Rattle.std.proofs.Common.{◌≡◌, ℕ, suc, Bool, true, false, cond, eqb, ltb, List, [], ◌∷◌, length, Some, None, Ok, Err, refl, arith, ltb-false, ltb-true}
 use Rattle.std.proofs.lemmas.Bool.{lt-ltb, le-ltb}
 use Rattle.element.specs.declared.level.Level.{Level}
 use Rattle.element.specs.declared.head.Head.{Head}
-use Rattle.instruction.specs.declared.fault.SetFault.{SetFault}
 use Rattle.instruction.specs.declared.fault.SetFault.TheVariants.{UnknownCode, WrongCount}
 use Rattle.sets.specs.Takes.{all_of, one_of, two_of, three_of, onto, single}
 use Rattle.sets.specs.Counts.{fault_at, fault_in, level_takes, head_takes}

@@ -1,5 +1,5 @@
 -- Laws of the head set's rules. Assumes nothing.
-use Rattle.std.proofs.Common.{◌≡◌, ℕ, ◌+◌, ◌-◌, ◌%◌, ◌<◌, List, [], ◌∷◌, Ok, refl, ap, ◌∙◌, arith}
+use Rattle.std.proofs.Common.{◌≡◌, ℕ, ◌+◌, ◌-◌, ◌%◌, [], ◌∷◌, Ok, ap, ◌∙◌, arith}
 use Rattle.element.specs.Same.{same_head}
 use Rattle.element.specs.Back.{low_same}
 use Rattle.element.specs.Bytes.{low_bytes}
@@ -7,7 +7,7 @@ use Rattle.element.specs.declared.colour.Colour.{Colour}
 use Rattle.element.specs.declared.colour.Colour.TheVariants.{Open}
 use Rattle.element.specs.declared.head.Head.{Head}
 use Rattle.element.specs.Heads.{head}
-use Rattle.sets.specs.HeadMeaning.{tinted, shifted, flipped, head_meaning}
+use Rattle.sets.specs.HeadMeaning.{shifted, flipped, head_meaning}
 use Rattle.sets.specs.HeadLaws.{parts}
 
 -- a head's colour is its own low bytes

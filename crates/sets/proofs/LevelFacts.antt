@@ -1,13 +1,12 @@
 -- Laws of the level set's rules. Assumes nothing.
-use Rattle.std.proofs.Common.{◌≡◌, ℕ, ◌+◌, ◌-◌, ◌*◌, ◌/◌, ◌%◌, ◌<◌, ◌≤◌, min, max, Bool, true, false, cond, ltb, ◌⊎◌, List, [], ◌∷◌, length, Ok, Err, Result, sym, refl, ap, ◌∙◌, subst, inl, inr, mul_comm, mul-add, arith, ltb-false, ltb-true}
+use Rattle.std.proofs.Common.{◌≡◌, ℕ, ◌+◌, ◌-◌, ◌*◌, ◌/◌, ◌≤◌, min, max, Bool, true, false, cond, ltb, List, [], ◌∷◌, length, Ok, Err, sym, refl, ap, ◌∙◌, subst, inl, inr, mul_comm, mul-add, arith, ltb-false, ltb-true}
 use Rattle.std.proofs.lemmas.Nat.{mul-le}
 use Rattle.element.specs.Same.{same_level}
 use Rattle.element.specs.declared.level.Level.{Level}
 use Rattle.element.specs.Levels.{level}
-use Rattle.instruction.specs.declared.fault.SetFault.{SetFault}
 use Rattle.instruction.specs.declared.fault.SetFault.TheVariants.{WrongCount}
 use Rattle.sets.specs.Takes.{single}
-use Rattle.sets.specs.LevelMeaning.{higher, highest, top_of, scaled, faded, raised, level_meaning}
+use Rattle.sets.specs.LevelMeaning.{higher, highest, scaled, faded, level_meaning}
 use Rattle.sets.specs.LevelLaws.{Among, NoneOver}
 
 -- a product with a number up to 255, over 255 and rounded

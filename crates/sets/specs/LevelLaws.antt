@@ -5,7 +5,7 @@ use Rattle.element.specs.Levels.{level}
 use Rattle.instruction.specs.declared.fault.SetFault.{SetFault}
 use Rattle.sets.specs.Takes.{onto}
 use Rattle.sets.specs.Counts.{level_takes, fault_at, fault_in}
-use Rattle.sets.specs.LevelMeaning.{scaled, curved, faded, raised, level_meaning}
+use Rattle.sets.specs.LevelMeaning.{scaled, curved, faded, level_meaning}
 
 -- the levels of a meaning as numbers
 abbrev pub numbers : Result (List Level) SetFault → Result (List ℕ) SetFault

@@ -1,5 +1,5 @@
 -- How many elements an instruction takes. Assumes nothing.
-use Rattle.std.specs.Prelude.{ℕ, cond, List, [], ◌∷◌, length, Ok, Err, Result, nat_lt}
+use Rattle.std.specs.Prelude.{cond, List, [], ◌∷◌, length, Ok, Err, Result, nat_lt}
 use Rattle.instruction.specs.declared.fault.SetFault.{SetFault}
 use Rattle.instruction.specs.declared.fault.SetFault.TheVariants.{WrongCount}
 

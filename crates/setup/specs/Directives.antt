@@ -1,5 +1,5 @@
 -- What the words of a line ask. Assumes nothing.
-use Rattle.std.specs.Prelude.{ℕ, ◌<◌, ◌≤◌, cond, List, [], ◌∷◌, length, Some, None, Ok, Err, codes, Option, Result, ◌==◌, slice_index_or}
+use Rattle.std.specs.Prelude.{ℕ, ◌<◌, ◌≤◌, cond, List, [], length, Some, None, Ok, Err, codes, Option, Result, ◌==◌, slice_index_or}
 use Rattle.std.specs.Str.{bytes_eq}
 use Rattle.element.specs.Pairs.{pair}
 use Rattle.setup.specs.declared.directive.Bottom.{Bottom}

@@ -1,5 +1,5 @@
 -- A setup text as lines and words. Assumes nothing.
-use Rattle.std.specs.Prelude.{◌≡◌, ℕ, suc, ◌<◌, Bool, true, false, cond, not, ◌||◌, List, [], ◌∷◌, length, take, drop, ◌==◌}
+use Rattle.std.specs.Prelude.{◌≡◌, ℕ, suc, ◌<◌, Bool, false, cond, not, ◌||◌, List, [], ◌∷◌, length, take, drop, ◌==◌}
 
 -- a space, a tab or a carriage return
 abbrev pub blank : ℕ → Bool

@@ -1,6 +1,6 @@
 -- Each outcome of opening a file comes exactly under its condition. Assumes nothing.
-use Rattle.std.proofs.Common.{◌≡◌, ℕ, ◌<◌, ◌≤◌, ◌⊎◌, List, [], ◌∷◌, Ok, Err, Result, sym, refl, ap, ◌∙◌, subst, inl, inr, ⊎_elim, arith}
-use Rattle.showfile.specs.Chain.{records, next_of, Link, Reaches, here, onward, Chain, ends, goes, Leaves, NeverZero, Sized, Clean}
+use Rattle.std.proofs.Common.{◌≡◌, ℕ, ◌<◌, ◌≤◌, List, [], ◌∷◌, Ok, Err, Result, sym, refl, ap, ◌∙◌, subst, arith}
+use Rattle.showfile.specs.Chain.{records, next_of, Reaches, here, onward, Chain, ends, goes, Leaves, NeverZero, Sized, Clean}
 use Rattle.showfile.specs.Opening.{rest, Opened, Cases}
 use Rattle.showfile.specs.declared.file.ShowFile.{ShowFile}
 use Rattle.showfile.specs.declared.refusal.FileRefusal.{FileRefusal}

@@ -1,5 +1,5 @@
 -- What opening a show file answers, and what reading it gives. Assumes nothing.
-use Rattle.std.specs.Prelude.{◌≡◌, ℕ, ◌<◌, ◌≤◌, ◌↔◌, List, [], ◌∷◌, length, get_or, Some, None, Ok, Err, Option, Result}
+use Rattle.std.specs.Prelude.{◌≡◌, ℕ, ◌↔◌, List, [], ◌∷◌, Some, None, Ok, Err, Option, Result}
 use Rattle.std.specs.Borrow.{Bor}
 use Rattle.showfile.specs.Chain.{Chain, Leaves, Stays, NeverZero, Sized, Clean, links, record_at}
 use Rattle.showfile.specs.declared.file.ShowFile.{ShowFile}

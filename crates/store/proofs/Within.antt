@@ -1,10 +1,10 @@
 -- A cell below the size, and one that is not.
-use Rattle.std.proofs.Common.{◌≡◌, ℕ, zero, suc, ◌<◌, ◌≤◌, List, [], ◌∷◌, length, get_or, set, Ok, Err, Result, sym, refl, ap, ◌∙◌, arith}
+use Rattle.std.proofs.Common.{◌≡◌, ℕ, zero, suc, ◌<◌, ◌≤◌, List, [], ◌∷◌, length, get_or, set, Ok, Err, sym, refl, ap, ◌∙◌, arith}
 use Rattle.std.proofs.lemmas.List.{set_past}
 use Rattle.std.proofs.lemmas.Bool.{lt-ltb, le-ltb}
 use Rattle.store.specs.declared.fault.StoreFault.{StoreFault}
 use Rattle.store.specs.declared.fault.StoreFault.TheVariants.{Beyond}
-use Rattle.store.specs.Meaning.{element, accepted, Reads, Writes}
+use Rattle.store.specs.Meaning.{element, Reads, Writes}
 
 pub element_within : {E : Type 0} (xs : List E) (n : ℕ) (d : E) → n < length xs → element xs n ≡ Ok (get_or xs n d)
 element_within [] n d h = absurd (omega arith)

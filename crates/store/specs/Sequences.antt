@@ -1,5 +1,5 @@
 -- How a store that means a list of elements answers accesses, one after another. Assumes nothing.
-use Rattle.std.specs.Prelude.{◌≡◌, ℕ, List, [], ◌∷◌, ◌++◌, length, take, drop, Ok, Err, Result, slice_set}
+use Rattle.std.specs.Prelude.{◌≡◌, List, [], ◌∷◌, ◌++◌, length, take, drop, Ok, Err, Result, slice_set}
 use Rattle.store.specs.declared.fault.StoreFault.{StoreFault}
 use Rattle.store.specs.declared.access.Access.{Access}
 use Rattle.store.specs.declared.access.Access.TheVariants.{Read, Write}

@@ -1,4 +1,4 @@
-use Rattle.std.proofs.Common.{◌≡◌, ◌+◌, ◌<◌, ◌≤◌, length}
+use Rattle.std.proofs.Common.{◌≡◌, ◌+◌, ◌≤◌, length}
 use Rattle.setup.specs.Pieces.{lines_of}
 use Rattle.rig.specs.Plans.{carried, rig_of}
 use Rattle.rig.specs.Views.{plan_of}

@@ -1,4 +1,4 @@
-use Rattle.std.proofs.Common.{◌≡◌, ◌+◌, ◌*◌, ◌<◌, ◌≤◌, length, get_or, ap, ◌∙◌, arith}
+use Rattle.std.proofs.Common.{◌≡◌, ◌+◌, ◌*◌, ◌<◌, ◌≤◌, get_or, ap, ◌∙◌, arith}
 use Rattle.setup.specs.Numbers.{capped, digit_of}
 use Rattle.setup.proofs.Reading.{read_stop, read_more, read_all, filled}
 use Rattle.setup.proofs.number.digits.Goals as goal

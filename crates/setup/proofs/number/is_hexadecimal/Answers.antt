@@ -1,4 +1,4 @@
-use Rattle.std.proofs.Common.{sym, refl, arith}
+use Rattle.std.proofs.Common.{sym, refl}
 use Rattle.setup.proofs.Reading.{short_word}
 use Rattle.std.proofs.lemmas.Bool.{both_ways}
 use Rattle.setup.proofs.number.is_hexadecimal.Goals as goal

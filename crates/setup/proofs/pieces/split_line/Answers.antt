@@ -1,7 +1,6 @@
-use Rattle.std.proofs.Common.{◌≡◌, ◌+◌, ◌-◌, [], ◌∷◌, length, take, drop, sym, refl, ap, ◌∙◌, arith}
+use Rattle.std.proofs.Common.{◌≡◌, ◌+◌, ◌-◌, length, take, drop, sym, refl, ◌∙◌, arith}
 use native.Mathlib.Nat.{sub-zero}
 use Rattle.std.proofs.lemmas.List.{take_rest, length-drop, nil_from_length}
-use Rattle.setup.specs.Pieces.{lines_of}
 use Rattle.setup.proofs.Fronts.{cut_line, cut_last}
 use Rattle.setup.proofs.pieces.split_line.Goals as goal
 

@@ -1,4 +1,4 @@
-use Rattle.std.proofs.Common.{◌≡◌, ◌+◌, ◌≤◌, drop, sym, ap, ◌∙◌, arith}
+use Rattle.std.proofs.Common.{◌+◌, drop, ap, ◌∙◌, arith}
 use Rattle.solo.specs.Logs.{refusals}
 use Rattle.solo.proofs.Counting.{passed, counted, counted_all}
 use Rattle.solo.proofs.logs.refused.Goals as goal

@@ -1,9 +1,9 @@
-use Rattle.std.proofs.Common.{◌≡◌, List, [], length, sym, refl, ap, ◌∙◌, subst, ap₂, arith}
+use Rattle.std.proofs.Common.{◌≡◌, List, [], sym, refl, ap, ◌∙◌, subst, ap₂, arith}
 use Rattle.std.proofs.lemmas.List.{nil_from_length}
 use Rattle.layer.specs.declared.held_write.HeldWrite.{HeldWrite}
 use Rattle.layer.specs.Holds.{laid}
-use Rattle.layer.specs.Layers.{held_in, Layer}
-use Rattle.layer.specs.Steps.{Sends, meant}
+use Rattle.layer.specs.Layers.{held_in}
+use Rattle.layer.specs.Steps.{Sends}
 use Rattle.layer.proofs.Sending.{sends_cells, sends_lender}
 use Rattle.layer.proofs.held.Held.flush.Goals as goal
 

@@ -1,4 +1,4 @@
-use Rattle.std.proofs.Common.{◌≡◌, ℕ, List, Some, None, Ok, Err, sym, refl, ap, ◌∙◌, arith}
+use Rattle.std.proofs.Common.{◌≡◌, ℕ, List, Ok, sym, refl, ap, ◌∙◌, arith}
 use Rattle.store.proofs.Within.{reads_beyond}
 use Rattle.layer.specs.Holds.{laid}
 use Rattle.layer.specs.Layers.{held_in}

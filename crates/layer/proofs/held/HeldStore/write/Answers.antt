@@ -1,11 +1,11 @@
-use Rattle.std.proofs.Common.{◌≡◌, ℕ, ◌<◌, ◌≤◌, ltb, List, length, take, sym, refl, ap, ◌∙◌, ap₂, arith}
+use Rattle.std.proofs.Common.{◌≡◌, ◌<◌, ◌≤◌, ltb, List, length, take, sym, refl, ap, ◌∙◌, ap₂, arith}
 use Rattle.std.proofs.lemmas.Bool.{lt-ltb, le-ltb, cond-true, cond-false}
 use Rattle.element.specs.declared.words.Words.{Words}
 use Rattle.store.specs.declared.access.Access.TheVariants.{Write}
 use Rattle.store.proofs.Within.{writes_within, writes_beyond}
 use Rattle.layer.specs.declared.held_write.HeldWrite.{HeldWrite}
 use Rattle.layer.specs.Holds.{placed, outgoing}
-use Rattle.layer.specs.Layers.{held_in, Layer, holding, layer_after, meaning}
+use Rattle.layer.specs.Layers.{held_in, holding, layer_after, meaning}
 use Rattle.layer.specs.Steps.{layer_of, meant}
 use Rattle.layer.proofs.Refining.{length-meaning, after_right}
 use Rattle.layer.proofs.Sending.{sends_cells, sends_lender}

@@ -1,4 +1,4 @@
-use Rattle.std.proofs.Common.{◌≡◌, ◌<◌, ap, ◌∙◌, arith, length-set, length-take}
+use Rattle.std.proofs.Common.{◌<◌, ap, ◌∙◌, arith, length-set, length-take}
 use Rattle.layer.specs.Holds.{apart}
 use Rattle.layer.proofs.Holding.{put_last, apart_placed}
 use Rattle.layer.proofs.table.Table.append.Goals as goal

@@ -1,4 +1,4 @@
-use Rattle.std.proofs.Common.{◌≡◌, ap, ◌∙◌, arith, length-set}
+use Rattle.std.proofs.Common.{ap, ◌∙◌, arith, length-set}
 use Rattle.layer.specs.Holds.{apart}
 use Rattle.layer.proofs.Holding.{held_below, put_in_place, apart_placed}
 use Rattle.layer.proofs.table.Table.rewrite.Goals as goal

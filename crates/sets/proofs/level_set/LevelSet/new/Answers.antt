@@ -1,4 +1,4 @@
-use Rattle.std.proofs.Common.{ℕ, List, [], ◌∷◌, Ok, ap, arith}
+use Rattle.std.proofs.Common.{ℕ, [], ◌∷◌, Ok, ap, arith}
 use Rattle.sets.proofs.CountFacts.{level_faults}
 use Rattle.sets.proofs.LevelFacts as fact
 use Rattle.sets.proofs.level_set.LevelSet.new.Goals as goal

@@ -1,5 +1,5 @@
-use Rattle.std.proofs.Common.{◌≡◌, ◌-◌, ◌∷◌, sym, refl, ap, ◌∙◌, subst, arith, rules}
-use Rattle.showfile.specs.Chain.{next_of, links}
+use Rattle.std.proofs.Common.{◌-◌, ◌∷◌, sym, refl, ap, ◌∙◌, arith, rules}
+use Rattle.showfile.specs.Chain.{links}
 use Rattle.showfile.proofs.Cycle.{links_less}
 use Rattle.showfile.proofs.file.ShowFileIterator.next.Goals as goal
 use Rattle.std.proofs.iter.Next.{firm}
