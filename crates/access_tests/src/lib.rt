@@ -8,4 +8,4 @@ mod ports;
 #[cfg(test)]
 mod queues;
 #[cfg(test)]
-mod sheet;
+mod sheets;

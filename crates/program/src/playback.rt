@@ -2,8 +2,8 @@
 use crate::{list, print, read};
 use console::fault::Fault;
 use console::options::Options;
-use stage::cells::Cells;
 use stage::fault::StageFault;
+use stage::last_cells::Cells;
 use stage::session::{Session, Tally};
 use stage::stage::play_shows;
 use std::alloc::Global;

@@ -9,7 +9,7 @@ use element::level::Level;
 use logfile::binary::add_log;
 use part::set::{Mask, PARTS, contains};
 use solo::logs::refused;
-use stage::cells::Cells;
+use stage::last_cells::Cells;
 use stage::session::Tally;
 use std::fmt::Display;
 use std::io::Write;

@@ -2,7 +2,7 @@
 use console::fault::Fault;
 use console::options::Options;
 use rig::parse::parse;
-use rig::setup::Setup;
+use rig::whole_setup::Setup;
 use showfile::file::ShowFile;
 use showfile::refusal::FileRefusal;
 use std::alloc::Global;

@@ -4,7 +4,7 @@ use Rattle.std.specs.Option.{option_map}
 use Rattle.port.specs.Sets as ports
 use Rattle.sheet.specs.View as sheets
 use Rattle.rig.specs.declared.draft.Draft.{Draft}
-use Rattle.rig.specs.declared.setup.Setup.{Setup}
+use Rattle.rig.specs.declared.whole_setup.Setup.{Setup}
 use Rattle.rig.specs.declared.problem.Problem.{Problem}
 use Rattle.rig.specs.declared.problem.Problem.TheVariants as the
 use Rattle.rig.specs.declared.problem.SetupError.{SetupError}

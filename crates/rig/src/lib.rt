@@ -4,4 +4,4 @@
 mod draft;
 pub mod parse;
 pub mod problem;
-pub mod setup;
+pub mod whole_setup;

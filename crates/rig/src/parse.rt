@@ -6,7 +6,7 @@ ghost use Rattle.rig.specs.Views.{plain_of, told_at};
 
 use crate::draft::Draft;
 use crate::problem::SetupError;
-use crate::setup::Setup;
+use crate::whole_setup::Setup;
 use setup::pieces::split_line;
 
 // The setup that a text asks for, its lines carried out in their order; or the first problem, with its line.

@@ -1,8 +1,8 @@
 // Plays show files on a host that a setup asks for: any kind of element, either store, and up to two layers.
 #![tactic(auto)]
 
-pub mod cells;
 pub mod fault;
+pub mod last_cells;
 mod memory;
 mod play;
 pub mod session;

@@ -1,6 +1,6 @@
 // From a setup to the one generic run: the layers, the store, the kind.
-use crate::cells::Cells;
 use crate::fault::StageFault;
+use crate::last_cells::Cells;
 use crate::memory::{laid_out, paired, unpacked};
 use crate::play::{Played, play};
 use crate::session::Session;
@@ -10,7 +10,7 @@ use element::level::Level;
 use instruction::set::InstructionSet;
 use layer::held::Held;
 use port::ports::Ports;
-use rig::setup::Setup;
+use rig::whole_setup::Setup;
 use sets::head_set::HeadSet;
 use sets::level_set::LevelSet;
 use setup::directive::{Bottom, ElementKind};

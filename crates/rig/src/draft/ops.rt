@@ -9,7 +9,7 @@ ghost use Rattle.rig.specs.Views.{plain_of, plan_of, told};
 
 use super::Draft;
 use crate::problem::Problem;
-use crate::setup::Setup;
+use crate::whole_setup::Setup;
 use element::words::Words;
 use port::ports::Ports;
 use setup::directive::{Bottom, Directive};
