@@ -115,9 +115,11 @@ fn finish(front: Front, shows: Vec<String>) -> Result<Options, Fault>
 
 impl Options {
     // [--log OUT] [--solo PART] SETUP SHOW.., the options in either order; without the program's own name.
-    pub fn read(_heap: Global, words: Vec<String>) -> Result<Options, Fault>
+    pub fn read(heap: Global, words: Vec<String>) -> Result<Options, Fault>
         ensures { read_in result ≡ options_of words.items }
     {
+        // The words are moved, so nothing is allocated.
+        let _ = heap;
         let mut words = VecDeque::from(words);
         let setup = next_word(&mut words)?;
         let bare = Front {

@@ -1,5 +1,5 @@
 -- What runs and commands on a kept host over packed words do. Assumes nothing.
-use Rattle.std.specs.Prelude.{◌≡◌, ℕ, ◌/◌, Bool, true, false, cond, List, length, replicate, Ok, Err, Result, ◌==◌}
+use Rattle.std.specs.Prelude.{◌≡◌, ℕ, ◌/◌, Bool, true, false, cond, List, length, Ok, Err, Result, ◌==◌}
 use Rattle.element.specs.declared.element.Element.{Ghosts as Elements}
 use Rattle.instruction.specs.declared.set.InstructionSet.{Ghosts as Sets}
 use Rattle.store.specs.Packing.{elements}
@@ -8,7 +8,6 @@ use Rattle.showfile.specs.declared.file.ShowFile.{ShowFile}
 use Rattle.showfile.specs.declared.refusal.FileRefusal.{FileRefusal}
 use Rattle.showfile.specs.Opening.{Opened, rest}
 use Rattle.element.specs.declared.level.Level.{Level}
-use Rattle.element.specs.declared.words.Words.{Words}
 use Rattle.isolation.specs.Request.{Request}
 use Rattle.host.specs.declared.host.Kept.{Kept}
 use Rattle.host.specs.Keeping.{listed, resumed, made_with}

@@ -1,5 +1,4 @@
 -- The two kinds of element and their instruction sets, as a host over packed words has them. Assumes nothing.
-use Rattle.std.specs.Prelude.{ℕ, List}
 use Rattle.element.specs.declared.element.Element.{Ghosts as Elements}
 use Rattle.element.specs.declared.level.Level.{Level}
 use Rattle.element.specs.declared.head.Head.{Head}

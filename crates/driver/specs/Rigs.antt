@@ -1,7 +1,7 @@
 -- What the calls on a rig do. Assumes nothing.
-use Rattle.std.specs.Prelude.{◌≡◌, ℕ, Bool, true, false, cond, ◌&&◌, replicate, ◌==◌, nat_lt}
+use Rattle.std.specs.Prelude.{◌≡◌, ℕ, cond, ◌&&◌, replicate, ◌==◌, nat_lt}
 use Rattle.part.specs.Sets.{parts}
-use Rattle.sheet.specs.Rows.{Rows, made, granted, swapped}
+use Rattle.sheet.specs.Rows.{made, granted, swapped}
 use Rattle.sheet.specs.View.{rows_of}
 use Rattle.port.specs.Sets.{no_sets, settled}
 use Rattle.driver.specs.declared.rig.Rig.{Rig}

@@ -1,27 +1,24 @@
 -- What the code makes of lists is what the machine makes of its tables. Assumes nothing.
-use Rattle.std.proofs.Common.{◌≡◌, ℕ, zero, suc, ◌-◌, ◌<◌, ◌≤◌, min, Bool, true, false, cond, ◌&&◌, eqb, ltb, List, [], ◌∷◌, ◌++◌, map, length, get_or, take, drop, set, Ok, Err, Result, sym, refl, ap, ◌∙◌, subst, ap₂, arith, length-set, length-take}
+use Rattle.std.proofs.Common.{◌≡◌, ℕ, ◌-◌, ◌<◌, ◌≤◌, min, Bool, true, false, cond, ◌&&◌, eqb, ltb, List, [], ◌∷◌, ◌++◌, map, length, get_or, take, drop, set, refl, ap, ◌∙◌, subst, ap₂, arith, length-set, length-take}
 use mathlib.Core.Path.{fun_ext}
 use lib.ListN.{length-map}
 use lib.Seq.{take-append_seam}
-use Rattle.std.proofs.lemmas.List.{take_all, length-take-le}
+use Rattle.std.proofs.lemmas.List.{take_all}
 use Rattle.std.proofs.lemmas.Bool.{lt-ltb}
 use Rattle.element.specs.declared.words.Words.{Words}
-use Rattle.instruction.specs.declared.fault.SetFault.{SetFault}
 use Rattle.cells.specs.Cells.{member, Within, beside}
 use Rattle.transfer.specs.declared.row.SaveRow.{SaveRow}
 use Rattle.transfer.specs.Lists.{elements_at, stored}
 use Rattle.transfer.specs.Rows.{row_of}
 use Rattle.queue.specs.Queue.{Queue, appended}
 use Rattle.queue.specs.Ports.{sent}
-use Rattle.reply.specs.Told.{Told, told_values}
+use Rattle.reply.specs.Told.{told_values}
 use Rattle.isolation.specs.Tables.{at, replace, change}
 use Rattle.isolation.specs.Request.{done}
-use Rattle.isolation.specs.Effect.{put, settle}
 use Rattle.isolation.proofs.Tables.{at_set}
 use Rattle.isolation.proofs.Checks.{member_within}
 use Rattle.host.specs.Parts.{no_row, saves_of}
 use Rattle.host.specs.Logged.{told_of}
-use Rattle.host.specs.Hosted.{outcome_of}
 
 -- what a scatter says cell by cell, as a table
 pub laid : {E : Type 0} (z : E) (ns sw : List ℕ) (vs xs ys : List E) (size : ℕ) → ns ≡ sw → Within size sw → length xs ≡ size →

@@ -1,5 +1,5 @@
 -- One command on a host that a history led to. Assumes nothing.
-use Rattle.std.proofs.Common.{◌≡◌, ℕ, Bool, true, List, [], ◌∷◌, ◌++◌, get_or, take, Result, sym, refl, ap, ◌∙◌, subst, ap₂}
+use Rattle.std.proofs.Common.{◌≡◌, ℕ, Bool, List, get_or, Result, sym, ap, ◌∙◌, subst, ap₂}
 use Rattle.element.specs.declared.words.Words.{Words}
 use Rattle.element.specs.declared.element.Element.{Ghosts as Elements}
 use Rattle.instruction.specs.declared.fault.SetFault.{SetFault}

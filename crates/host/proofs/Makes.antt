@@ -7,7 +7,7 @@ use Rattle.cells.specs.Cells.{beside}
 use Rattle.command.specs.declared.refusal.Refusal.{Refusal}
 use Rattle.command.specs.declared.refusal.Refusal.TheVariants.{Size}
 use Rattle.queue.specs.declared.queues.Queues.{Queues}
-use Rattle.queue.specs.Queue.{Queue, empty}
+use Rattle.queue.specs.Queue.{empty}
 use Rattle.queue.specs.Packed.{packed_at, unpacked_by, queue_at}
 use Rattle.transfer.specs.declared.row.SaveRow.{SaveRow}
 use Rattle.transfer.specs.Rows.{row_of}

@@ -1,12 +1,11 @@
 -- What the host's calls promise. Assumes nothing.
-use Rattle.std.specs.Prelude.{◌≡◌, ℕ, Bool, true, cond, List, [], ◌∷◌, ◌++◌, length, Some, None, Option, ◌==◌}
+use Rattle.std.specs.Prelude.{◌≡◌, ℕ, cond, List, [], ◌∷◌, ◌++◌, length, Some, None, ◌==◌}
 use Rattle.element.specs.declared.element.Element.{Ghosts as Elements}
 use Rattle.instruction.specs.declared.set.InstructionSet.{Ghosts as Sets}
 use Rattle.store.specs.declared.store.Store.{Ghosts as Stores}
 use Rattle.sheet.specs.declared.sheet.Sheet.{Sheet}
 use Rattle.port.specs.declared.ports.Ports.{Ports}
 use Rattle.command.specs.declared.log.LogRecord.{LogRecord}
-use Rattle.command.specs.declared.refusal.Refusal.{Refusal}
 use Rattle.command.specs.declared.refusal.Refusal.TheVariants as refusal
 use Rattle.isolation.specs.Tables.{at}
 use Rattle.isolation.specs.Making.{Making}

@@ -1,5 +1,5 @@
 -- The log record of an entry, its values packed. Assumes nothing.
-use Rattle.std.specs.Prelude.{ℕ, List, [], length, replicate}
+use Rattle.std.specs.Prelude.{ℕ, length, replicate}
 use Rattle.element.specs.declared.words.Words.{Words}
 use Rattle.command.specs.declared.log.LogRecord.{LogRecord}
 use Rattle.reply.specs.Told.{Told, words_of}

@@ -1,5 +1,5 @@
 -- A host seen as one whose store is the plain list of its elements. Assumes nothing.
-use Rattle.std.proofs.Common.{◌≡◌, ℕ, Bool, List, ◌++◌, map, length, drop, sym, refl, ap, ◌∙◌, subst, ap₂}
+use Rattle.std.proofs.Common.{◌≡◌, ℕ, Bool, List, ◌++◌, map, length, drop, sym, refl, ap, ◌∙◌, ap₂}
 use Rattle.element.specs.declared.element.Element.{Ghosts as Elements}
 use Rattle.instruction.specs.declared.set.InstructionSet.{Ghosts as Sets}
 use Rattle.store.specs.declared.store.Store.{Ghosts as Stores}

@@ -1,9 +1,6 @@
 -- Lists that are added piece by piece. Assumes nothing.
-use Rattle.std.proofs.Common.{◌≡◌, ℕ, ◌+◌, ◌*◌, ◌<◌, ◌≤◌, List, [], ◌∷◌, ◌++◌, length, get_or, drop, sym, refl, ap, ◌∙◌, append_assoc, append-nil}
+use Rattle.std.proofs.Common.{◌≡◌, ℕ, ◌+◌, ◌<◌, ◌≤◌, List, [], ◌∷◌, ◌++◌, length, get_or, drop, sym, ap, ◌∙◌, append_assoc, append-nil}
 use Rattle.std.proofs.lemmas.List.{at_drop_more, at_drop_all}
-use Rattle.element.specs.Pairs.{pair}
-use Rattle.element.specs.declared.words.Words.{Words}
-use Rattle.store.specs.Packing.{elements}
 
 -- F writes the pieces of a list one after another, each as g does
 pub piece_more : {X Y : Type 0} (F : List X → List Y) (g : X → List Y) (out new : List Y) (xs : List X) (i : ℕ) (d : X) → ((x : X) (ys : List X) → F (x ∷ ys) ≡ g x ++ F ys) → i < length xs → new ≡ out ++ g (get_or xs i d) → new ++ F (drop (i + 1) xs) ≡ out ++ F (drop i xs)

@@ -1,9 +1,8 @@
-use Rattle.std.proofs.Common.{◌≡◌, ℕ, List, length, refl, ap, ◌∙◌, subst}
-use Rattle.element.specs.declared.level.Level.{Level}
+use Rattle.std.proofs.Common.{ℕ, List, length, refl, ap, ◌∙◌, subst}
 use Rattle.showfile.specs.Opening.{rest}
 use Rattle.isolation.specs.Request.{Request}
 use Rattle.host.specs.Parts.{left_null}
-use Rattle.run.specs.Runs.{requests_of, done_of, some}
+use Rattle.run.specs.Runs.{requests_of, some}
 use Rattle.driver.specs.Kinds.{levels, level_codes}
 use Rattle.driver.specs.Drives.{RanOn}
 use Rattle.driver.proofs.Done.{all_done}

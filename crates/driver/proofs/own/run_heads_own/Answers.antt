@@ -1,4 +1,4 @@
-use Rattle.std.proofs.Common.{◌≡◌, List, length, subst, arith}
+use Rattle.std.proofs.Common.{List, length, subst, arith}
 use Rattle.showfile.specs.Opening.{rest}
 use Rattle.isolation.specs.Request.{Request}
 use Rattle.run.specs.Runs.{requests_of}

@@ -1,4 +1,4 @@
-use Rattle.std.proofs.Common.{◌≡◌, length, ap, ◌∙◌}
+use Rattle.std.proofs.Common.{length, ap, ◌∙◌}
 use Rattle.host.specs.declared.host.Host.{Host}
 use Rattle.run.specs.Runs.{requests_of, done_of}
 use Rattle.pile.proofs.Plain.{plain_ran}

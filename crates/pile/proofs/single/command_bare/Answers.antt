@@ -1,4 +1,4 @@
-use Rattle.std.proofs.Common.{◌≡◌, ap, ◌∙◌}
+use Rattle.std.proofs.Common.{ap, ◌∙◌}
 use Rattle.host.specs.declared.host.Host.{Host}
 use Rattle.host.specs.Parts.{request_of}
 use Rattle.pile.proofs.Plain.{plain_commanded}

@@ -1,6 +1,5 @@
-use Rattle.std.proofs.Common.{◌≡◌, ℕ, List, ◌++◌, map, length, take, drop, sym, refl, ap, ◌∙◌, subst, ap₂, arith}
+use Rattle.std.proofs.Common.{◌≡◌, ℕ, List, ◌++◌, map, length, take, drop, sym, ap, ◌∙◌, subst, ap₂, arith}
 use Rattle.std.proofs.lemmas.List.{take_all, length-map}
-use Rattle.command.specs.declared.log.LogRecord.{LogRecord}
 use Rattle.showfile.specs.declared.file.ShowFile.{ShowFile}
 use Rattle.showfile.specs.Chain.{record_at}
 use Rattle.showfile.specs.Opening.{rest}
@@ -9,7 +8,7 @@ use Rattle.isolation.specs.History.{log_of, after_all}
 use Rattle.host.specs.Logged.{record_of}
 use Rattle.host.specs.Hosted.{state_of, fits_of, making_of}
 use Rattle.run.specs.Runs.{request_at}
-use Rattle.run.proofs.Going.{Going, going_none, to_come, going_more, going_end}
+use Rattle.run.proofs.Going.{Going, to_come, going_more, going_end}
 use Rattle.run.proofs.show.play.Goals as goal
 
 pub bounds-log-n : goal.bounds-log-n

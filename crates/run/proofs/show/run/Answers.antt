@@ -1,7 +1,7 @@
-use Rattle.std.proofs.Common.{◌≡◌, ℕ, length, Ok, sym, refl, ap, ◌∙◌, subst, arith}
+use Rattle.std.proofs.Common.{length, Ok, sym, ap, ◌∙◌, arith}
 use Rattle.showfile.specs.Opening.{rest}
 use Rattle.run.specs.Runs.{requests_of}
-use Rattle.run.proofs.LedAll.{ran, ran_none}
+use Rattle.run.proofs.LedAll.{ran}
 use Rattle.run.proofs.Ended.{answered_all, cleared}
 use Rattle.run.proofs.show.run.Goals as goal
 

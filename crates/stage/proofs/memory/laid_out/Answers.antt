@@ -1,4 +1,4 @@
-use Rattle.std.proofs.Common.{◌≡◌, [], ◌∷◌, ◌++◌, sym, refl, ap, ◌∙◌, append_assoc}
+use Rattle.std.proofs.Common.{[], ◌∷◌, refl, ◌∙◌}
 use Rattle.stage.specs.First.{laid}
 use Rattle.stage.proofs.Adding.{piece_more, piece_all, two_more}
 use Rattle.stage.proofs.memory.laid_out.Goals as goal

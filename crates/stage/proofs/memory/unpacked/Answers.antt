@@ -1,4 +1,4 @@
-use Rattle.std.proofs.Common.{◌≡◌, [], ◌∷◌, ◌++◌, map, vec_items, refl, ap, ◌∙◌}
+use Rattle.std.proofs.Common.{[], ◌∷◌, ◌++◌, map, vec_items, refl, ap, ◌∙◌}
 use Rattle.element.specs.Pairs.{pair}
 use Rattle.stage.proofs.Adding.{piece_more, piece_all}
 use Rattle.stage.proofs.memory.unpacked.Goals as goal

@@ -1,4 +1,4 @@
-use Rattle.std.proofs.Common.{◌≡◌, ℕ, ◌<◌, min, List, length, get_or, refl, ap, ◌∙◌, ap₂, arith}
+use Rattle.std.proofs.Common.{◌≡◌, ℕ, ◌<◌, min, List, length, get_or, ◌∙◌, ap₂, arith}
 use Rattle.cells.specs.Cells.{cell_list}
 use Rattle.transfer.proofs.Taking.{taken_more, left_more, taken_end}
 use Rattle.transfer.proofs.transfer.gather.Goals as goal

@@ -1,4 +1,4 @@
-use Rattle.std.proofs.Common.{◌≡◌, ℕ, suc, ◌-◌, ◌≤◌, List, length, get_or, set, sym, refl, ap, ◌∙◌, arith}
+use Rattle.std.proofs.Common.{◌≡◌, ℕ, suc, ◌-◌, ◌≤◌, length, set, refl, ap, ◌∙◌, arith}
 use Rattle.cells.specs.Cells.{cell_list}
 use Rattle.transfer.proofs.Storing.{stored_none, stored_more, stored_all, each_all}
 use Rattle.transfer.proofs.transfer.scatter.Goals as goal

@@ -2,7 +2,7 @@ use Rattle.std.proofs.Common.{◌≡◌, ℕ, Bool, true, false, cond, ◌&&◌,
 use Rattle.std.proofs.lemmas.Bool.{lt-ltb}
 use Rattle.sheet.specs.declared.refusal.Refusal.{Refusal}
 use Rattle.sheet.specs.declared.refusal.Refusal.TheVariants.{Part, Size, Cell, Taken, Full, Mode}
-use Rattle.sheet.specs.Rows.{Rows, Outcome, made}
+use Rattle.sheet.specs.Rows.{Outcome, made}
 use Rattle.sheet.specs.View.{number_of}
 use Rattle.driver.specs.Rigs.{new_number}
 use Rattle.driver.proofs.rig.calls.nuvkerd_rig_new.Goals as goal

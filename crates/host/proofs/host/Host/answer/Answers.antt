@@ -4,7 +4,7 @@ use Rattle.command.specs.declared.malformed.Malformed.TheVariants.{Length}
 use Rattle.command.specs.declared.refusal.Refusal.TheVariants.{Malformed}
 use Rattle.isolation.specs.Request.{whole, roomy}
 use Rattle.isolation.specs.Machine.{host_step, record_step}
-use Rattle.isolation.proofs.Steps.{rooms, step_torn, step_misfit, step_record}
+use Rattle.isolation.proofs.Steps.{rooms, step_torn, step_record}
 use Rattle.host.specs.Parts.{request_of}
 use Rattle.host.specs.Hosted.{state_of, fits_of, making_of}
 use Rattle.host.proofs.Does.{does_same, does_refuse}

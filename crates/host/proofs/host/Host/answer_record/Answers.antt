@@ -1,4 +1,4 @@
-use Rattle.std.proofs.Common.{◌≡◌, sym, refl, ap, ◌∙◌}
+use Rattle.std.proofs.Common.{◌≡◌, sym, refl, ◌∙◌}
 use Rattle.command.specs.Commands.{order_of}
 use Rattle.command.specs.Order.{decoded}
 use Rattle.command.specs.Shape.{part_of}

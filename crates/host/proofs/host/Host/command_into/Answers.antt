@@ -5,11 +5,11 @@ use Rattle.command.specs.declared.refusal.Refusal.TheVariants.{Malformed, Scratc
 use Rattle.command.specs.declared.log.Answer.TheVariants.{Refused}
 use Rattle.command.specs.declared.log.LogRecord.{LogRecord}
 use Rattle.reply.specs.Told.{Told, told}
-use Rattle.isolation.specs.Request.{Request, whole, roomy, part, kind, refused, entry, Step}
+use Rattle.isolation.specs.Request.{Request, whole, roomy, part, kind, entry, Step}
 use Rattle.isolation.specs.Machine.{State}
 use Rattle.isolation.proofs.Steps.{rooms, no_room, step_short}
 use Rattle.host.specs.Parts.{request_of, left_null}
-use Rattle.host.specs.Logged.{told_of, record_with, record_of}
+use Rattle.host.specs.Logged.{record_with, record_of}
 use Rattle.host.specs.Hosted.{state_of, fits_of, making_of}
 use Rattle.host.proofs.Leading.{commanded}
 use Rattle.host.proofs.host.Host.command_into.Goals as goal

@@ -1,6 +1,5 @@
-use Rattle.std.proofs.Common.{◌≡◌, ℕ, cond, eqb, Some, None, sym, refl, ap, ◌∙◌, subst, ap₂}
+use Rattle.std.proofs.Common.{ℕ, cond, eqb, Some, None, ◌∙◌, ap₂}
 use Rattle.command.specs.declared.refusal.Refusal.TheVariants.{Size}
-use Rattle.host.specs.declared.host.Host.{Host}
 use Rattle.host.proofs.Makes.{made_over}
 use Rattle.host.proofs.host.Host.make.Goals as goal
 

@@ -1,9 +1,8 @@
-use Rattle.std.proofs.Common.{◌≡◌, ℕ, ◌≤◌, length, sym, ap, subst, arith}
+use Rattle.std.proofs.Common.{◌≡◌, sym, ap, subst, arith}
 use Rattle.cells.specs.Cells.{cell_list}
 use Rattle.command.specs.Commands.{order_of, Few}
-use Rattle.command.specs.Order.{Order, restore, save, work, instruct, send, receive}
+use Rattle.command.specs.Order.{Order}
 use Rattle.isolation.specs.Tables.{at}
-use Rattle.isolation.specs.Making.{Making}
 use Rattle.isolation.specs.Check.{check, pass}
 use Rattle.isolation.specs.Machine.{is_open, held_by, act}
 use Rattle.isolation.proofs.Checks.{passed_part, passed_instruct, passed_send, passed_receive}

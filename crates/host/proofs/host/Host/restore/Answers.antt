@@ -1,4 +1,4 @@
-use Rattle.std.proofs.Common.{◌≡◌, ℕ, eqb, List, length, get_or, take, sym, refl, ap, ◌∙◌, subst}
+use Rattle.std.proofs.Common.{ℕ, eqb, length, get_or, take, refl, ap, ◌∙◌, subst}
 use Rattle.std.proofs.lemmas.Bool.{eqb-true}
 use Rattle.cells.specs.Cells.{Within}
 use Rattle.sheet.specs.View.{rows_of}

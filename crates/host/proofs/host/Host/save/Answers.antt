@@ -1,4 +1,4 @@
-use Rattle.std.proofs.Common.{◌≡◌, ℕ, eqb, List, length, take, refl, ap, ◌∙◌, ap₂}
+use Rattle.std.proofs.Common.{ℕ, eqb, List, length, take, refl, ap, ◌∙◌, ap₂}
 use Rattle.sheet.specs.View.{rows_of}
 use Rattle.isolation.specs.Tables.{at}
 use Rattle.isolation.specs.Machine.{closed}

@@ -1,4 +1,4 @@
-use Rattle.std.proofs.Common.{◌≡◌, ℕ, eqb, List, length, sym, refl, ap, ◌∙◌, ap₂}
+use Rattle.std.proofs.Common.{◌≡◌, ℕ, eqb, length, sym, refl, ap, ◌∙◌, ap₂}
 use Rattle.element.specs.Pairs.{pair}
 use Rattle.sheet.specs.View.{rows_of}
 use Rattle.queue.specs.Queue.{Queue}

@@ -1,4 +1,4 @@
-use Rattle.std.proofs.Common.{◌≡◌, ℕ, ◌-◌, ◌<◌, min, List, ◌++◌, map, length, get_or, take, replicate, sym, refl, ap, ◌∙◌, ap₂, arith, length-set, length-take}
+use Rattle.std.proofs.Common.{◌≡◌, ℕ, ◌-◌, ◌<◌, List, ◌++◌, map, length, get_or, take, replicate, sym, ap, ◌∙◌, ap₂, arith, length-set, length-take}
 use Rattle.std.proofs.lemmas.List.{get_or-take}
 use Rattle.element.specs.Pairs.{pair}
 use Rattle.element.specs.declared.words.Words.{Words}
