@@ -1,8 +1,7 @@
 /* Plays a show file of levels on a host made by numbers, twice, and prints the log of both runs: the state lasts from one run to the next.
  *
- *     rt staticlib driver
- *     KIT=$(dirname $(dirname $(rt doc)))
- *     cc -Iinclude examples/play.c target/staticlib/libdriver.a $KIT/lib/librattle_c.a -o target/play
+ *     (cd crates/driver && rt lib)
+ *     mkdir -p target && cc -Iinclude examples/play.c crates/driver/out/libdriver.a -o target/play
  *     target/play crates/playback/data/level.show
  */
 #include "nuvkerd.h"

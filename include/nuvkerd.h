@@ -1,6 +1,6 @@
 /* The playback host as a static library for drivers.
  *
- * Build: `rt staticlib driver`, then link target/staticlib/libdriver.a and the toolchain's lib/librattle_c.a (see examples/play.c).
+ * Build: `rt lib` in crates/driver, then link crates/driver/out/libdriver.a (see examples/play.c).
  *
  * Refusals are told by the numbers of docs/RULES.md, and three numbers of this interface's own; 0 means none. A refused call writes nothing but
  * its own refusal or outcome. Every length is a count of elements of the list that the pointer begins. Pointers are never null, also where
