@@ -23,7 +23,6 @@ module _ {S I E : Type 0} (st : Stores S E) (el : Elements E) (is : Sets I E) (x
     state = λ m. d.state m ∙ sym (ap (λ (a : Step E (State E)). a.after) (e m));
     making = d.making;
     fits = d.fits;
-    lender = d.lender;
     answer = λ m. d.answer m ∙ sym (ap (λ (a : Step E (State E)). told_of el.packed a.answer) (e m));
   }
 
@@ -36,6 +35,5 @@ module _ {S I E : Type 0} (st : Stores S E) (el : Elements E) (is : Sets I E) (x
     state = λ m. sym (ap (λ (a : Step E (State E)). a.after) (e m));
     making = λ m. refl;
     fits = refl;
-    lender = refl;
     answer = λ m. sym (ap (λ (a : Step E (State E)). told_of el.packed a.answer) (e m));
   }

@@ -50,13 +50,12 @@ module _ {S I E : Type 0} (st : Stores S E) (el : Elements E) (is : Sets I E) (x
   -- the isolation of an answer follows from what the answer and the state after it are
   pub commanded : ((m : ℕ → E) → r ≡ record_of el.packed (entry c (host_step (fits_of st el x) (making_of el is x m) c (state_of st el x)).answer)) →
       ((m : ℕ → E) → state_of st el y ≡ (host_step (fits_of st el x) (making_of el is x m) c (state_of st el x)).after) →
-      ((m : ℕ → E) → making_of el is y m ≡ making_of el is x m) → fits_of st el y ≡ fits_of st el x → st.lender y.store ≡ st.lender x.store → Commanded st el is x y c r
-  commanded ans sta mk fit lend = record {
+      ((m : ℕ → E) → making_of el is y m ≡ making_of el is x m) → fits_of st el y ≡ fits_of st el x → Commanded st el is x y c r
+  commanded ans sta mk fit = record {
     answer = ans;
     state = sta;
     making = mk;
     fits = fit;
-    lender = lend;
     isolated = λ k h led.
         shown el.packed k (exclusive_led st el is x k h led) h c r
         (ans k.cells ∙ ap (λ (t : Step E (State E)). record_of el.packed (entry c t.answer)) (step_led st el is x k h led c));

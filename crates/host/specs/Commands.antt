@@ -38,10 +38,9 @@ pub record Commanded {S I E : Type 0} (st : Stores S E) (el : Elements E) (is : 
   -- the record, and the whole state afterwards, are the machine's, whatever the cells at making were
   pub answer : (m : ℕ → E) → r ≡ record_of el.packed (entry c (host_step (fits_of st el x) (making_of el is x m) c (state_of st el x)).answer)
   pub state : (m : ℕ → E) → state_of st el y ≡ (host_step (fits_of st el x) (making_of el is x m) c (state_of st el x)).after
-  -- sheet, port sets and the set's meaning stay, and so do the size of the store and the memory that was lent to it
+  -- sheet, port sets and the set's meaning stay, and so does the size of the store
   pub making : (m : ℕ → E) → making_of el is y m ≡ making_of el is x m
   pub fits : fits_of st el y ≡ fits_of st el x
-  pub lender : st.lender y.store ≡ st.lender x.store
   -- Isolation: for every making and every history that lead to this host, the answer is the separate boxes', and what is left of the
   -- history for any part gives it too; and the host afterwards is the one that the longer history leads to.
   pub isolated : (k : Making E) (h : List Request) → Led st el is k h x → Shown el.packed k h c r

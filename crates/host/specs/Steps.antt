@@ -20,7 +20,6 @@ pub record Does {S I E : Type 0} (st : Stores S E) (el : Elements E) (is : Sets 
   pub state : (m : ℕ → E) → state_of st el y ≡ (t (making_of el is x m) (state_of st el x)).after
   pub making : (m : ℕ → E) → making_of el is y m ≡ making_of el is x m
   pub fits : fits_of st el y ≡ fits_of st el x
-  pub lender : st.lender y.store ≡ st.lender x.store
   pub answer : (m : ℕ → E) → told r ≡ told_of el.packed (t (making_of el is x m) (state_of st el x)).answer
 
 abbrev pub verdict_of : Option Refusal → Verdict

@@ -1,5 +1,5 @@
 -- A host seen as one whose store is the plain list of its elements. Assumes nothing.
-use Rattle.std.proofs.Common.{◌≡◌, ℕ, Bool, List, ◌++◌, map, length, drop, sym, refl, ap, ◌∙◌, ap₂}
+use Rattle.std.proofs.Common.{◌≡◌, ℕ, Bool, List, ◌++◌, map, length, drop, sym, ap, ◌∙◌, ap₂}
 use Rattle.element.specs.declared.element.Element.{Ghosts as Elements}
 use Rattle.instruction.specs.declared.set.InstructionSet.{Ghosts as Sets}
 use Rattle.store.specs.declared.store.Store.{Ghosts as Stores}
@@ -57,7 +57,6 @@ module _ {S I E : Type 0} (st : Stores S E) where
           state = λ m. sym (ap (state_of listed el) same) ∙ (did.plays.state m ∙ ap₂ (λ (f : Request → State E → Step E (State E)) (t : State E). after_all f t cs) (step m) sx);
           making = λ m. ap (λ (j : Making E). with_set j (making_of el is x₀ m)) (sym (ap (λ (h : Host (List E) I E). making_of el is h m) same) ∙ (did.plays.making m ∙ mx m));
           fits = sym (ap (fits_of listed el) same) ∙ (did.plays.fits ∙ fx);
-          lender = refl;
         })
 
     -- the same of one command
@@ -75,4 +74,4 @@ module _ {S I E : Type 0} (st : Stores S E) where
         (λ m. did.answer m ∙ ap (λ (t : Step E (State E)). record_of el.packed (entry c t.answer)) (step m))
         (λ m. sym (ap (state_of listed el) same) ∙ (did.state m ∙ ap (λ (t : Step E (State E)). t.after) (step m)))
         (λ m. ap (λ (j : Making E). with_set j (making_of el is x₀ m)) (sym (ap (λ (h : Host (List E) I E). making_of el is h m) same) ∙ (did.making m ∙ mx m)))
-        (sym (ap (fits_of listed el) same) ∙ (did.fits ∙ fx)) refl
+        (sym (ap (fits_of listed el) same) ∙ (did.fits ∙ fx))

@@ -61,9 +61,9 @@ module _ {S I E : Type 0} (st : Stores S E) (el : Elements E) (is : Sets I E) (b
 
   pub going_more : (left left' : List ℕ) (n p : ℕ) (h h' : Host S I E) (new : List LogRecord) (args results args' results' : List E) (bytes : List ℕ) (r : LogRecord) →
       8 ≤ length args0 → 4 ≤ length results0 → Going st el is bs ps h0 old args0 results0 left n h new args results → left ≡ p ∷ left' → bytes ≡ record_at bs p →
-      Commanded st el is h h' (request_with p bytes 8 4) r → length args' ≡ length args → length results' ≡ length results →
+      Commanded st el is h h' (request_with p bytes 8 4) r → st.lender h'.store ≡ st.lender h.store → length args' ≡ length args → length results' ≡ length results →
       Going st el is bs ps h0 old args0 results0 left' (n + 1) h' (set new n r) args' results'
-  going_more left left' n p h h' new args results args' results' bytes r ra rr w e be did la lr =
+  going_more left left' n p h h' new args results args' results' bytes r ra rr w e be did lend la lr =
       let more : n < length ps = to_come left left' n p h new args results w e in
       let both : p ∷ left' ≡ get_or ps n 0 ∷ drop (n + 1) ps = sym e ∙ (w.left_is ∙ drop_more ps n 0 more) in
       let here : p ≡ get_or ps n 0 = cc in
@@ -88,7 +88,7 @@ module _ {S I E : Type 0} (st : Stores S E) (el : Elements E) (is : Sets I E) (b
             (did.state m ∙ ap (λ (t : Step E (State E)). t.after) (host m ∙ scratch m));
         making = λ m. did.making m ∙ w.making m;
         fits = did.fits ∙ w.fits;
-        lender = did.lender ∙ w.lender;
+        lender = lend ∙ w.lender;
         args_left = record { long = la ∙ w.args_left.long; untouched = λ z. absurd (omega arith) };
         results_left = record { long = lr ∙ w.results_left.long; untouched = λ z. absurd (omega arith) };
       }

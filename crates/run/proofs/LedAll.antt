@@ -64,4 +64,4 @@ module _ {S I E : Type 0} (st : Stores S E) (el : Elements E) (is : Sets I E) (x
 
 -- a run that is refused, or of no commands
 pub ran_none : {S I E : Type 0} (st : Stores S E) (el : Elements E) (is : Sets I E) (x : Host S I E) (l : List LogRecord) → Ran st el is x x [] l l
-ran_none st el is x l = ran st el is x x [] l l (record { log = λ m. refl; state = λ m. refl; making = λ m. refl; fits = refl; lender = refl })
+ran_none st el is x l = ran st el is x x [] l l (record { log = λ m. refl; state = λ m. refl; making = λ m. refl; fits = refl })

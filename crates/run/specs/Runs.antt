@@ -54,11 +54,10 @@ ShownAll p k h (c ∷ cs) (r ∷ rs) = Shown p k h c r × ShownAll p k (h ++ (c 
 pub record Plays {S I E : Type 0} (st : Stores S E) (el : Elements E) (is : Sets I E) (x y : Host S I E) (cs : List Request) (l l' : List LogRecord) : Type 0 where
   -- one record a request, as the machine answers it; later records stay
   pub log : (m : ℕ → E) → l' ≡ map (record_of el.packed) (log_of (host_step (fits_of st el x) (making_of el is x m)) (state_of st el x) cs) ++ drop (length cs) l
-  -- the whole state afterwards is the machine's; sheet, port sets and the set's meaning stay, and so do the size of the store and the memory that was lent to it
+  -- the whole state afterwards is the machine's; sheet, port sets and the set's meaning stay, and so does the size of the store
   pub state : (m : ℕ → E) → state_of st el y ≡ after_all (host_step (fits_of st el x) (making_of el is x m)) (state_of st el x) cs
   pub making : (m : ℕ → E) → making_of el is y m ≡ making_of el is x m
   pub fits : fits_of st el y ≡ fits_of st el x
-  pub lender : st.lender y.store ≡ st.lender x.store
 
 -- A run. For every making and every history that lead to the host, each record is isolated, and the longer history leads to the host afterwards.
 pub record Ran {S I E : Type 0} (st : Stores S E) (el : Elements E) (is : Sets I E) (x y : Host S I E) (cs : List Request) (l l' : List LogRecord) : Type 0 where

@@ -20,19 +20,13 @@ fn do_one<S: Store, I: InstructionSet<S::Item>>(
     bytes: &[u8],
     args: &mut [S::Item],
     results: &mut [S::Item],
-    log: &mut LogRecord,
-)
+) -> LogRecord
     requires args { 8 ≤ length args.old }
     requires results { 4 ≤ length results.old }
-    ensures { Commanded S.Store S.Item.Element I.InstructionSet host.old host.new (request_with place bytes.now 8 4) log.new }
+    ensures commanded { Commanded S.Store S.Item.Element I.InstructionSet host.old host.new (request_with place bytes.now 8 4) result }
+    ensures lender { S.Store.lender host.new.store ≡ S.Store.lender host.old.store }
 {
-    host.command_into(
-        place as u32,
-        bytes,
-        &mut args[0..8],
-        &mut results[0..4],
-        log,
-    );
+    host.command(place as u32, bytes, &mut args[0..8], &mut results[0..4])
 }
 
 // Each command of the chain, in chain order; how many there were.
@@ -48,12 +42,13 @@ fn play<S: Store, I: InstructionSet<S::Item>>(
     requires log { length (rest file) ≤ length log.old }
     ensures count { result ≡ length (rest file.entry) }
     ensures played { Plays S.Store S.Item.Element I.InstructionSet host.old host.new (requests_of file.entry (length args.old) (length results.old)) log.old log.new }
+    ensures lender { S.Store.lender host.new.store ≡ S.Store.lender host.old.store }
     ensures args { Left result args.old args.new }
     ensures results { Left result results.old results.new }
 {
     let mut n = 0;
     for (place, bytes) in file {
-        do_one(host, place, bytes, args, results, &mut log[n]);
+        log[n] = do_one(host, place, bytes, args, results);
         n += 1;
     }
     n
@@ -78,6 +73,7 @@ pub fn run<S: Store, I: InstructionSet<S::Item>>(
 ) -> Result<usize, RunRefusal>
     ensures answer { result ≡ answered (length (rest file.entry)) (length log.old) (length args.old) (length results.old) }
     ensures ran { Ran S.Store S.Item.Element I.InstructionSet host.old host.new (done_of result (requests_of file.entry (length args.old) (length results.old))) log.old log.new }
+    ensures lender { S.Store.lender host.new.store ≡ S.Store.lender host.old.store }
     ensures args { args.new ≡ left_null (some (done_of result (rest file.entry))) S.Item.Element.blank args.old }
     ensures results { results.new ≡ left_null (some (done_of result (rest file.entry))) S.Item.Element.blank results.old }
 {

@@ -75,7 +75,8 @@ impl<S: Store, I: InstructionSet<S::Item>> Host<S, I> {
     fn restore(&mut self, part: u8) -> Answer
         requires part { part < 8 }
         requires fits { fits_of S.Store S.Item.Element self.old ≡ true }
-        ensures { Does S.Store S.Item.Element I.InstructionSet self.old self.new (λ k s. act k pass part order.restore s) result }
+        ensures does { Does S.Store S.Item.Element I.InstructionSet self.old self.new (λ k s. act k pass part order.restore s) result }
+        ensures lender { S.Store.lender self.new.store ≡ S.Store.lender self.old.store }
     {
         let row = self.rows[part as usize];
         swap_in(&mut self.store, self.sheet.swaps(), row);
@@ -86,7 +87,8 @@ impl<S: Store, I: InstructionSet<S::Item>> Host<S, I> {
     // The part's row takes the swapped cells, and the turn is nobody's.
     fn save(&mut self, part: u8) -> Answer
         requires part { part < 8 }
-        ensures { Does S.Store S.Item.Element I.InstructionSet self.old self.new (λ k s. act k pass part order.save s) result }
+        ensures does { Does S.Store S.Item.Element I.InstructionSet self.old self.new (λ k s. act k pass part order.save s) result }
+        ensures lender { S.Store.lender self.new.store ≡ S.Store.lender self.old.store }
     {
         let row = swap_out(&mut self.store, self.sheet.swaps());
         keep(&mut self.rows, part, row);
@@ -108,7 +110,8 @@ impl<S: Store, I: InstructionSet<S::Item>> Host<S, I> {
         requires room { 4 ≤ length results.old }
         requires fits { fits_of S.Store S.Item.Element self.old ≡ true }
         requires within { Within self.old.sheet.size (cell_list rs.now) }
-        ensures { Does S.Store S.Item.Element I.InstructionSet self.old self.new (λ k s. act k pass part (order.work (order.instruct code (cell_list xs.now) (cell_list rs.now))) s) result }
+        ensures does { Does S.Store S.Item.Element I.InstructionSet self.old self.new (λ k s. act k pass part (order.work (order.instruct code (cell_list xs.now) (cell_list rs.now))) s) result }
+        ensures lender { S.Store.lender self.new.store ≡ S.Store.lender self.old.store }
     {
         let n = gather(&mut self.store, xs, args);
         match apply(&mut self.set, code, &args[0..n], results) {
@@ -125,7 +128,8 @@ impl<S: Store, I: InstructionSet<S::Item>> Host<S, I> {
         requires few { length (cell_list xs.now) ≤ 4 }
         requires room { 4 ≤ length args.old }
         requires port { port < 16 }
-        ensures { Does S.Store S.Item.Element I.InstructionSet self.old self.new (λ k s. act k pass part (order.work (order.send port (cell_list xs.now))) s) result }
+        ensures does { Does S.Store S.Item.Element I.InstructionSet self.old self.new (λ k s. act k pass part (order.work (order.send port (cell_list xs.now))) s) result }
+        ensures lender { S.Store.lender self.new.store ≡ S.Store.lender self.old.store }
     {
         let n = gather(&mut self.store, xs, args);
         self.queues.send(port, &args[0..n]);
@@ -137,7 +141,8 @@ impl<S: Store, I: InstructionSet<S::Item>> Host<S, I> {
         requires room { 4 ≤ length results.old }
         requires fits { fits_of S.Store S.Item.Element self.old ≡ true }
         requires within { Within self.old.sheet.size (cell_list rs.now) }
-        ensures { Does S.Store S.Item.Element I.InstructionSet self.old self.new (λ k s. act k pass part (order.work (order.receive port (cell_list rs.now))) s) result }
+        ensures does { Does S.Store S.Item.Element I.InstructionSet self.old self.new (λ k s. act k pass part (order.work (order.receive port (cell_list rs.now))) s) result }
+        ensures lender { S.Store.lender self.new.store ≡ S.Store.lender self.old.store }
     {
         let taken = self.queues.receive(port, results);
         let many = taken.count;
@@ -158,7 +163,8 @@ impl<S: Store, I: InstructionSet<S::Item>> Host<S, I> {
         requires results { 4 ≤ length results.old }
         requires fits { fits_of S.Store S.Item.Element self.old ≡ true }
         requires passed { (m : ℕ → S.Item) → check (making_of S.Item.Element I.InstructionSet self.old m) (is_open (turn_of self.old.turn)) (held_by (turn_of self.old.turn) part) part (order_of command) ≡ pass }
-        ensures { Does S.Store S.Item.Element I.InstructionSet self.old self.new (λ k s. act k pass part (order_of command.entry) s) result }
+        ensures does { Does S.Store S.Item.Element I.InstructionSet self.old self.new (λ k s. act k pass part (order_of command.entry) s) result }
+        ensures lender { S.Store.lender self.new.store ≡ S.Store.lender self.old.store }
     {
         match command {
             Command::Restore => self.restore(part),
@@ -184,7 +190,8 @@ impl<S: Store, I: InstructionSet<S::Item>> Host<S, I> {
         requires args { 8 ≤ length args.old }
         requires results { 4 ≤ length results.old }
         requires fits { fits_of S.Store S.Item.Element self.old ≡ true }
-        ensures { Does S.Store S.Item.Element I.InstructionSet self.old self.new (λ k s. record_step k bytes.now s) result }
+        ensures does { Does S.Store S.Item.Element I.InstructionSet self.old self.new (λ k s. record_step k bytes.now s) result }
+        ensures lender { S.Store.lender self.new.store ≡ S.Store.lender self.old.store }
     {
         let part = bytes[2];
         match decode(bytes) {

@@ -49,7 +49,8 @@ impl<S: Store, I: InstructionSet<S::Item>> Host<S, I> {
     ) -> Answer
         requires args { 8 ≤ length args.old }
         requires results { 4 ≤ length results.old }
-        ensures { Does S.Store S.Item.Element I.InstructionSet self.old self.new (λ k s. host_step (fits_of S.Store S.Item.Element self.old) k (request_of place bytes.now args.old results.old) s) result }
+        ensures does { Does S.Store S.Item.Element I.InstructionSet self.old self.new (λ k s. host_step (fits_of S.Store S.Item.Element self.old) k (request_of place bytes.now args.old results.old) s) result }
+        ensures lender { S.Store.lender self.new.store ≡ S.Store.lender self.old.store }
     {
         if bytes.len() != 32 {
             return Answer::Refused(Refusal::Malformed(Malformed::Length));
@@ -71,6 +72,7 @@ impl<S: Store, I: InstructionSet<S::Item>> Host<S, I> {
     )
         ensures commanded { Commanded S.Store S.Item.Element I.InstructionSet self.old self.new (request_of place bytes.now args.old results.old) log.new }
         ensures cleared { Cleared S.Item.Element.blank (request_of place bytes.now args.old results.old) args.old args.new results.old results.new }
+        ensures lender { S.Store.lender self.new.store ≡ S.Store.lender self.old.store }
     {
         if args.len() < 8 || results.len() < 4 {
             *log = logged(place, bytes, Answer::Refused(short_of(bytes)));
@@ -92,6 +94,7 @@ impl<S: Store, I: InstructionSet<S::Item>> Host<S, I> {
     ) -> LogRecord
         ensures commanded { Commanded S.Store S.Item.Element I.InstructionSet self.old self.new (request_of place bytes.now args.old results.old) result }
         ensures cleared { Cleared S.Item.Element.blank (request_of place bytes.now args.old results.old) args.old args.new results.old results.new }
+        ensures lender { S.Store.lender self.new.store ≡ S.Store.lender self.old.store }
     {
         let mut log = LogRecord::new(place, 0, 0, Answer::Granted);
         self.command_into(place, bytes, args, results, &mut log);

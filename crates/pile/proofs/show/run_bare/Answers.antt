@@ -16,7 +16,7 @@ returns g c =
       answer = c.run.ensures.answer;
       ran = plain_ran st el is c.args.kept.now c.keep.result c.args.store c.into_store.result c.args.set c.resume-host.result y cs c.args.log.now c.run.new.log
           c.resume-host.ensures c.keep.ensures c.into_store.ensures did;
-      lender = ap st.lender c.into_store.ensures ∙ (did.plays.lender ∙ ap (λ (h : Host g.row.S.Denot g.row.I.Denot g.row.S-Item.Denot). st.lender h.store) c.resume-host.ensures);
+      lender = ap st.lender c.into_store.ensures ∙ (c.run.ensures.lender ∙ ap (λ (h : Host g.row.S.Denot g.row.I.Denot g.row.S-Item.Denot). st.lender h.store) c.resume-host.ensures);
       args = c.run.ensures.args;
       results = c.run.ensures.results;
     }

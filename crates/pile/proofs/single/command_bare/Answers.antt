@@ -12,6 +12,6 @@ returns g c =
     record {
       commanded = plain_commanded st g.S.Item.Element g.I.InstructionSet c.args.kept.now c.keep.result c.args.store c.into_store.result c.args.set c.resume-host.result
           c.command.new.self q c.command.result c.resume-host.ensures c.keep.ensures c.into_store.ensures did;
-      lender = ap st.lender c.into_store.ensures ∙ (did.lender ∙ ap (λ (h : Host g.row.S.Denot g.row.I.Denot g.row.S-Item.Denot). st.lender h.store) c.resume-host.ensures);
+      lender = ap st.lender c.into_store.ensures ∙ (c.command.ensures.lender ∙ ap (λ (h : Host g.row.S.Denot g.row.I.Denot g.row.S-Item.Denot). st.lender h.store) c.resume-host.ensures);
       cleared = c.command.ensures.cleared;
     }

@@ -30,8 +30,8 @@ loop-place-preserved g c =
       told.1 ∙ was.2,
       going_more g.S.Store g.S.Item.Element g.I.InstructionSet it.bytes.now (rest it) c.args.host.now c.args.log.now c.args.args.now c.args.results.now
           (rest c.loop-place.place-iterator) (rest c.next.new.self) c.loop-place.n c.in-Some.place c.loop-place.host c.do_one.new.host c.loop-place.log
-          c.loop-place.args c.loop-place.results c.do_one.new.args c.do_one.new.results c.in-Some.bytes.now c.do_one.new.log
-          c.requires.args c.requires.results was.3 told.0 same c.do_one.ensures (omega arith) (omega arith),
+          c.loop-place.args c.loop-place.results c.do_one.new.args c.do_one.new.results c.in-Some.bytes.now c.do_one.result
+          c.requires.args c.requires.results was.3 told.0 same c.do_one.ensures.commanded c.do_one.ensures.lender (omega arith) (omega arith),
     )
 
 pub returns : goal.returns
@@ -66,8 +66,8 @@ returns g c =
         state = λ m. (w.filled m).state_is ∙ ap (λ (qs : List ℕ). after_all (f m) s0 (map req qs)) all;
         making = w.making;
         fits = w.fits;
-        lender = w.lender;
       };
+      lender = w.lender;
       args = w.args_left;
       results = w.results_left;
     }

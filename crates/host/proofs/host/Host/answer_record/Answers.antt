@@ -25,16 +25,24 @@ returns-in-Some g c =
     let h = c.args.self.now in
     let bs = c.args.bytes.now in
     let o : order_of c.in-Ok.command ≡ decoded bs = c.in-Ok.ensures.order ∙ ordered_whole bs c.requires.whole in
-    does_refuse g.S.Store g.S.Item.Element g.I.InstructionSet h (λ k s. record_step k bs s) c.in-Some.why
-    (λ m. step_fail (making_of {S = g.row.S.Denot} g.S.Item.Element g.I.InstructionSet h m) bs (state_of {I = g.row.I.Denot} g.S.Store g.S.Item.Element h)
-    (order_of c.in-Ok.command) (refusal_number c.in-Some.why) (refusal_detail c.in-Some.why) o (c.in-Some.ensures m))
+    record {
+      does =
+          does_refuse g.S.Store g.S.Item.Element g.I.InstructionSet h (λ k s. record_step k bs s) c.in-Some.why
+          (λ m. step_fail (making_of {S = g.row.S.Denot} g.S.Item.Element g.I.InstructionSet h m) bs (state_of {I = g.row.I.Denot} g.S.Store g.S.Item.Element h)
+          (order_of c.in-Ok.command) (refusal_number c.in-Some.why) (refusal_detail c.in-Some.why) o (c.in-Some.ensures m));
+      lender = refl;
+    }
 
 pub returns-in-None : goal.returns-in-None
 returns-in-None g c =
     let h = c.args.self.now in
     let bs = c.args.bytes.now in
     let o : order_of c.in-Ok.command ≡ decoded bs = c.in-Ok.ensures.order ∙ ordered_whole bs c.requires.whole in
-    does_same g.S.Store g.S.Item.Element g.I.InstructionSet h c.perform.new.self (λ k s. act k pass (part_of bs) (order_of c.in-Ok.command) s) (λ k s. record_step k bs s) c.perform.result
-    (λ m. step_pass (making_of {S = g.row.S.Denot} g.S.Item.Element g.I.InstructionSet h m) bs (state_of {I = g.row.I.Denot} g.S.Store g.S.Item.Element h)
-    (order_of c.in-Ok.command) o (c.in-None.ensures m))
-    c.perform.ensures
+    record {
+      does =
+          does_same g.S.Store g.S.Item.Element g.I.InstructionSet h c.perform.new.self (λ k s. act k pass (part_of bs) (order_of c.in-Ok.command) s) (λ k s. record_step k bs s) c.perform.result
+          (λ m. step_pass (making_of {S = g.row.S.Denot} g.S.Item.Element g.I.InstructionSet h m) bs (state_of {I = g.row.I.Denot} g.S.Store g.S.Item.Element h)
+          (order_of c.in-Ok.command) o (c.in-None.ensures m))
+          c.perform.ensures.does;
+      lender = c.perform.ensures.lender;
+    }

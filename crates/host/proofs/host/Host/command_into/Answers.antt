@@ -39,11 +39,12 @@ returns-then-args-lt8 g c =
     record {
       commanded = commanded g.S.Store g.S.Item.Element g.I.InstructionSet h h q c.logged.result
           (λ m. c.logged.ensures ∙ (ap (logs q) why ∙ sym (ap (λ (t : Step g.row.S-Item.Denot (State g.row.S-Item.Denot)). record_of g.S.Item.Element.packed (entry q t.answer)) (e m))))
-          (λ m. sym (ap (λ (t : Step g.row.S-Item.Denot (State g.row.S-Item.Denot)). t.after) (e m))) (λ m. refl) refl refl;
+          (λ m. sym (ap (λ (t : Step g.row.S-Item.Denot (State g.row.S-Item.Denot)). t.after) (e m))) (λ m. refl) refl;
       cleared = record {
         args = untouched (roomy q) g.S.Item.Element.blank c.args.args.now r;
         results = untouched (roomy q) g.S.Item.Element.blank c.args.results.now r;
       };
+      lender = refl;
     }
 
 pub returns : goal.returns
@@ -56,10 +57,11 @@ returns g c =
     let lr : length c.answer-answer.new.results ≡ length c.args.results.now = omega arith in
     record {
       commanded = commanded g.S.Store g.S.Item.Element g.I.InstructionSet h c.answer-answer.new.self q c.logged-2.result
-          (λ m. c.logged-2.ensures ∙ ap (logs q) (c.answer-answer.ensures.answer m))
-          c.answer-answer.ensures.state c.answer-answer.ensures.making c.answer-answer.ensures.fits c.answer-answer.ensures.lender;
+          (λ m. c.logged-2.ensures ∙ ap (logs q) (c.answer-answer.ensures.does.answer m))
+          c.answer-answer.ensures.does.state c.answer-answer.ensures.does.making c.answer-answer.ensures.does.fits;
       cleared = record {
         args = nulls (roomy q) z c.args.args.now c.clear.new.places r (c.clear.ensures ∙ ap (λ (n : ℕ). replicate n z) la);
         results = nulls (roomy q) z c.args.results.now c.clear-2.new.places r (c.clear-2.ensures ∙ ap (λ (n : ℕ). replicate n z) lr);
       };
+      lender = c.answer-answer.ensures.lender;
     }

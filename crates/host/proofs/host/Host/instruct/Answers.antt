@@ -22,13 +22,15 @@ returns-in-Err g c =
     let meant : f (map (at z xs) ns) ≡ Err c.in-Err.fault = ap f (sym got) ∙ (c.in-Err.ensures.applied.enough (omega arith)).0 in
     let done' = ap (λ (o : Result (List g.row.S-Item.Denot) SetFault). settle z (outcome_of o) rs (at z xs) s.queues) meant in
     record {
-      state = λ m. ap (λ (x : ℕ → g.row.S-Item.Denot). record { cells = x; save_rows = s.save_rows; turn = s.turn; queues = s.queues }) (ap (at z) c.gather-n.ensures.store.cells)
-          ∙ ap (λ (e : Effect g.row.S-Item.Denot). record { cells = e.cells; save_rows = s.save_rows; turn = s.turn; queues = e.queues }) (sym done');
-      making = λ m. ap (λ (t : ℕ → List g.row.S-Item.Denot → Result (List g.row.S-Item.Denot) SetFault). making_with z t h.sheet h.ports m) c.apply.ensures.same;
-      fits = ap (λ (l : List g.row.S-Item.Denot). eqb (length l) h.sheet.size) c.gather-n.ensures.store.cells;
+      does = record {
+        state = λ m. ap (λ (x : ℕ → g.row.S-Item.Denot). record { cells = x; save_rows = s.save_rows; turn = s.turn; queues = s.queues }) (ap (at z) c.gather-n.ensures.store.cells)
+            ∙ ap (λ (e : Effect g.row.S-Item.Denot). record { cells = e.cells; save_rows = s.save_rows; turn = s.turn; queues = e.queues }) (sym done');
+        making = λ m. ap (λ (t : ℕ → List g.row.S-Item.Denot → Result (List g.row.S-Item.Denot) SetFault). making_with z t h.sheet h.ports m) c.apply.ensures.same;
+        fits = ap (λ (l : List g.row.S-Item.Denot). eqb (length l) h.sheet.size) c.gather-n.ensures.store.cells;
+        answer = λ m. ap (λ (n : ℕ). record { refusal = 13; detail = n; missed = 0; count = 0; words = replicate 8 0 }) c.number.ensures
+            ∙ ap (λ (e : Effect g.row.S-Item.Denot). told_of g.S.Item.Element.packed e.answer) (sym done');
+      };
       lender = c.gather-n.ensures.store.lender;
-      answer = λ m. ap (λ (n : ℕ). record { refusal = 13; detail = n; missed = 0; count = 0; words = replicate 8 0 }) c.number.ensures
-          ∙ ap (λ (e : Effect g.row.S-Item.Denot). told_of g.S.Item.Element.packed e.answer) (sym done');
     }
 
 pub returns-in-Ok : goal.returns-in-Ok
@@ -54,11 +56,13 @@ returns-in-Ok g c =
     laid z rs rs vs before ys h.sheet.size refl c.requires.within (ap length same ∙ eqb-true (length xs) h.sheet.size c.requires.fits) c.scatter.ensures.each
     ∙ ap (λ (l : List g.row.S-Item.Denot). put z rs vs (at z l)) same in
     record {
-      state = λ m. ap (λ (x : ℕ → g.row.S-Item.Denot). record { cells = x; save_rows = s.save_rows; turn = s.turn; queues = s.queues }) written
-          ∙ ap (λ (e : Effect g.row.S-Item.Denot). record { cells = e.cells; save_rows = s.save_rows; turn = s.turn; queues = e.queues }) (sym done');
-      making = λ m. ap (λ (t : ℕ → List g.row.S-Item.Denot → Result (List g.row.S-Item.Denot) SetFault). making_with z t h.sheet h.ports m) c.apply.ensures.same;
-      fits = ap (λ (n : ℕ). eqb n h.sheet.size) (ap length c.scatter.ensures.cells ∙ (length-stored z rs vs before ∙ ap length same));
+      does = record {
+        state = λ m. ap (λ (x : ℕ → g.row.S-Item.Denot). record { cells = x; save_rows = s.save_rows; turn = s.turn; queues = s.queues }) written
+            ∙ ap (λ (e : Effect g.row.S-Item.Denot). record { cells = e.cells; save_rows = s.save_rows; turn = s.turn; queues = e.queues }) (sym done');
+        making = λ m. ap (λ (t : ℕ → List g.row.S-Item.Denot → Result (List g.row.S-Item.Denot) SetFault). making_with z t h.sheet h.ports m) c.apply.ensures.same;
+        fits = ap (λ (n : ℕ). eqb n h.sheet.size) (ap length c.scatter.ensures.cells ∙ (length-stored z rs vs before ∙ ap length same));
+        answer = λ m. c.values.ensures ∙ (told_all p 0 vs (short_front many c.apply.new.places stands.1)
+            ∙ ap (λ (e : Effect g.row.S-Item.Denot). told_of p e.answer) (sym done'));
+      };
       lender = c.scatter.ensures.lender ∙ c.gather-n.ensures.store.lender;
-      answer = λ m. c.values.ensures ∙ (told_all p 0 vs (short_front many c.apply.new.places stands.1)
-          ∙ ap (λ (e : Effect g.row.S-Item.Denot). told_of p e.answer) (sym done'));
     }

@@ -71,25 +71,45 @@ receive-requires g c =
 
 pub returns-in-Restore : goal.returns-in-Restore
 returns-in-Restore g c =
-    subst (λ (o : Order). Does g.S.Store g.S.Item.Element g.I.InstructionSet c.args.self.now c.restore.new.self (λ k s. act k pass c.args.part o s) c.restore.result)
-    (sym (ap order_of c.in-Restore.is)) c.restore.ensures
+    record {
+      does =
+          subst (λ (o : Order). Does g.S.Store g.S.Item.Element g.I.InstructionSet c.args.self.now c.restore.new.self (λ k s. act k pass c.args.part o s) c.restore.result)
+          (sym (ap order_of c.in-Restore.is)) c.restore.ensures.does;
+      lender = c.restore.ensures.lender;
+    }
 
 pub returns-in-Save : goal.returns-in-Save
 returns-in-Save g c =
-    subst (λ (o : Order). Does g.S.Store g.S.Item.Element g.I.InstructionSet c.args.self.now c.save.new.self (λ k s. act k pass c.args.part o s) c.save.result)
-    (sym (ap order_of c.in-Save.is)) c.save.ensures
+    record {
+      does =
+          subst (λ (o : Order). Does g.S.Store g.S.Item.Element g.I.InstructionSet c.args.self.now c.save.new.self (λ k s. act k pass c.args.part o s) c.save.result)
+          (sym (ap order_of c.in-Save.is)) c.save.ensures.does;
+      lender = c.save.ensures.lender;
+    }
 
 pub returns-in-Instruct : goal.returns-in-Instruct
 returns-in-Instruct g c =
-    subst (λ (o : Order). Does g.S.Store g.S.Item.Element g.I.InstructionSet c.args.self.now c.instruct.new.self (λ k s. act k pass c.args.part o s) c.instruct.result)
-    (sym (ap order_of c.in-Instruct.is)) c.instruct.ensures
+    record {
+      does =
+          subst (λ (o : Order). Does g.S.Store g.S.Item.Element g.I.InstructionSet c.args.self.now c.instruct.new.self (λ k s. act k pass c.args.part o s) c.instruct.result)
+          (sym (ap order_of c.in-Instruct.is)) c.instruct.ensures.does;
+      lender = c.instruct.ensures.lender;
+    }
 
 pub returns-in-Send : goal.returns-in-Send
 returns-in-Send g c =
-    subst (λ (o : Order). Does g.S.Store g.S.Item.Element g.I.InstructionSet c.args.self.now c.send.new.self (λ k s. act k pass c.args.part o s) c.send.result)
-    (sym (ap order_of c.in-Send.is)) c.send.ensures
+    record {
+      does =
+          subst (λ (o : Order). Does g.S.Store g.S.Item.Element g.I.InstructionSet c.args.self.now c.send.new.self (λ k s. act k pass c.args.part o s) c.send.result)
+          (sym (ap order_of c.in-Send.is)) c.send.ensures.does;
+      lender = c.send.ensures.lender;
+    }
 
 pub returns-in-Receive : goal.returns-in-Receive
 returns-in-Receive g c =
-    subst (λ (o : Order). Does g.S.Store g.S.Item.Element g.I.InstructionSet c.args.self.now c.receive.new.self (λ k s. act k pass c.args.part o s) c.receive.result)
-    (sym (ap order_of c.in-Receive.is)) c.receive.ensures
+    record {
+      does =
+          subst (λ (o : Order). Does g.S.Store g.S.Item.Element g.I.InstructionSet c.args.self.now c.receive.new.self (λ k s. act k pass c.args.part o s) c.receive.result)
+          (sym (ap order_of c.in-Receive.is)) c.receive.ensures.does;
+      lender = c.receive.ensures.lender;
+    }

@@ -25,13 +25,15 @@ returns g c =
     let got : ws ≡ vs = front many c.receive-taken.new.places vs (c.receive-taken.ensures.given.whole c.requires.room) in
     let short : length ws ≤ 4 = subst (λ (l : List g.row.S-Item.Denot). length l ≤ 4) (sym got) c.receive-taken.ensures.given.few in
     record {
-      state = λ m. ap₂ (λ (x : ℕ → g.row.S-Item.Denot) (y : ℕ → Queue g.row.S-Item.Denot). record { cells = x; save_rows = s.save_rows; turn = s.turn; queues = y })
-          (laid z rs rs ws xs ys h.sheet.size refl c.requires.within (eqb-true (length xs) h.sheet.size c.requires.fits) c.scatter.ensures.each
-          ∙ ap (λ (l : List g.row.S-Item.Denot). put z rs l (at z xs)) got)
-          c.receive-taken.ensures.queues.after;
-      making = λ m. refl;
-      fits = ap (λ (n : ℕ). eqb n h.sheet.size) (ap length c.scatter.ensures.cells ∙ length-stored z rs ws xs);
+      does = record {
+        state = λ m. ap₂ (λ (x : ℕ → g.row.S-Item.Denot) (y : ℕ → Queue g.row.S-Item.Denot). record { cells = x; save_rows = s.save_rows; turn = s.turn; queues = y })
+            (laid z rs rs ws xs ys h.sheet.size refl c.requires.within (eqb-true (length xs) h.sheet.size c.requires.fits) c.scatter.ensures.each
+            ∙ ap (λ (l : List g.row.S-Item.Denot). put z rs l (at z xs)) got)
+            c.receive-taken.ensures.queues.after;
+        making = λ m. refl;
+        fits = ap (λ (n : ℕ). eqb n h.sheet.size) (ap length c.scatter.ensures.cells ∙ length-stored z rs ws xs);
+        answer = λ m. c.values.ensures ∙ (told_all p c.receive-taken.result.missed ws short
+            ∙ ap₂ (λ (n : ℕ) (l : List g.row.S-Item.Denot). told_of p (done n l)) c.receive-taken.ensures.given.missed got);
+      };
       lender = c.scatter.ensures.lender;
-      answer = λ m. c.values.ensures ∙ (told_all p c.receive-taken.result.missed ws short
-          ∙ ap₂ (λ (n : ℕ) (l : List g.row.S-Item.Denot). told_of p (done n l)) c.receive-taken.ensures.given.missed got);
     }

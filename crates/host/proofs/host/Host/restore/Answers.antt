@@ -19,12 +19,14 @@ returns g c =
     let s = state_of {I = g.row.I.Denot} g.S.Store g.S.Item.Element h in
     let r = c.swaps.result.now in
     record {
-      state = λ m. ap (λ (t : ℕ → g.row.S-Item.Denot). record { cells = t; save_rows = s.save_rows; turn = opened c.args.part; queues = s.queues })
-          (laid z (take 16 r) sw vs xs (g.S.Store.cells c.swap_in.new.store) h.sheet.size
-          (all_swaps r sw c.swaps.ensures.value c.swaps.ensures.few) (subst (Within h.sheet.size) c.swaps.ensures.value c.swaps.ensures.within)
-          (eqb-true (length xs) h.sheet.size c.requires.fits) c.swap_in.ensures.each);
-      making = λ m. refl;
-      fits = ap (λ (n : ℕ). eqb n h.sheet.size) (ap length c.swap_in.ensures.cells ∙ length-stored z (take 16 r) vs xs);
+      does = record {
+        state = λ m. ap (λ (t : ℕ → g.row.S-Item.Denot). record { cells = t; save_rows = s.save_rows; turn = opened c.args.part; queues = s.queues })
+            (laid z (take 16 r) sw vs xs (g.S.Store.cells c.swap_in.new.store) h.sheet.size
+            (all_swaps r sw c.swaps.ensures.value c.swaps.ensures.few) (subst (Within h.sheet.size) c.swaps.ensures.value c.swaps.ensures.within)
+            (eqb-true (length xs) h.sheet.size c.requires.fits) c.swap_in.ensures.each);
+        making = λ m. refl;
+        fits = ap (λ (n : ℕ). eqb n h.sheet.size) (ap length c.swap_in.ensures.cells ∙ length-stored z (take 16 r) vs xs);
+        answer = λ m. refl;
+      };
       lender = c.swap_in.ensures.lender;
-      answer = λ m. refl;
     }

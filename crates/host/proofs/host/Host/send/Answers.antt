@@ -22,11 +22,13 @@ returns g c =
     let few : length (map (at z xs) ns) ≤ 4 = rw length-map c.requires.few in
     let short : length vs ≤ 4 = subst (λ (l : List g.row.S-Item.Denot). length l ≤ 4) (sym got) few in
     record {
-      state = λ m. ap₂ (λ (x : ℕ → g.row.S-Item.Denot) (y : ℕ → Queue g.row.S-Item.Denot). record { cells = x; save_rows = s.save_rows; turn = s.turn; queues = y })
-          (ap (at z) c.gather-n.ensures.store.cells)
-          (c.send.ensures.sent.after ∙ (sent_all c.args.port vs s.queues c.requires.port short ∙ ap (λ (l : List g.row.S-Item.Denot). change s.queues c.args.port (appended l)) got));
-      making = λ m. refl;
-      fits = ap (λ (l : List g.row.S-Item.Denot). eqb (length l) h.sheet.size) c.gather-n.ensures.store.cells;
+      does = record {
+        state = λ m. ap₂ (λ (x : ℕ → g.row.S-Item.Denot) (y : ℕ → Queue g.row.S-Item.Denot). record { cells = x; save_rows = s.save_rows; turn = s.turn; queues = y })
+            (ap (at z) c.gather-n.ensures.store.cells)
+            (c.send.ensures.sent.after ∙ (sent_all c.args.port vs s.queues c.requires.port short ∙ ap (λ (l : List g.row.S-Item.Denot). change s.queues c.args.port (appended l)) got));
+        making = λ m. refl;
+        fits = ap (λ (l : List g.row.S-Item.Denot). eqb (length l) h.sheet.size) c.gather-n.ensures.store.cells;
+        answer = λ m. c.values.ensures ∙ (told_all p 0 vs short ∙ ap (λ (l : List g.row.S-Item.Denot). told_of p (done 0 l)) got);
+      };
       lender = c.gather-n.ensures.store.lender;
-      answer = λ m. c.values.ensures ∙ (told_all p 0 vs short ∙ ap (λ (l : List g.row.S-Item.Denot). told_of p (done 0 l)) got);
     }
