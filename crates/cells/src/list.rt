@@ -1,6 +1,8 @@
 ghost use Rattle.std.specs.Prelude.{◌≡◌, length, slice_index};
 ghost use Rattle.cells.specs.Cells.{cell_list};
 
+pub mod numbers;
+
 // How many cell numbers a run of bytes holds.
 pub fn count(bytes: &[u8]) -> usize
     ensures { result ≡ length (cell_list bytes.now) }
@@ -15,5 +17,5 @@ pub fn cell(bytes: &[u8], i: usize) -> usize
     if i >= bytes.len() / 2 {
         return 0;
     }
-    bytes[2 * i] as usize + 256 * bytes[2 * i + 1] as usize
+    u16::from_le_bytes([bytes[2 * i], bytes[2 * i + 1]]) as usize
 }

@@ -12,4 +12,4 @@ returns c =
     let bs = c.args.bytes.now in
     let i = c.args.i in
     let h : suc (2 * i) < length bs = omega arith in
-    ap (λ (j : ℕ). get_or bs (2 * i) 0 + 256 * get_or bs j 0) (add-one (2 * i)) ∙ sym (cell_at bs i (2 * i) refl h)
+    omega (arith, c.from_le_bytes.ensures) ∙ (ap (λ (j : ℕ). get_or bs (2 * i) 0 + 256 * get_or bs j 0) (add-one (2 * i)) ∙ sym (cell_at bs i (2 * i) refl h))
