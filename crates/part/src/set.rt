@@ -1,4 +1,4 @@
-ghost use Rattle.std.specs.Prelude.{◌≡◌, ◌^◌, ◌≤◌, false, if◌then◌else◌, nat_lt};
+ghost use Rattle.std.specs.Prelude.{◌≡◌, ◌^◌, ◌<◌, ◌≤◌, ◌↔◌, false, if◌then◌else◌, nat_lt, IsSome, IfSome};
 ghost use Rattle.part.specs.Sets.{bit, parts};
 
 // How many parts a host has; they are numbered from 0.
@@ -6,6 +6,26 @@ pub const PARTS: u8 = 8;
 
 // A set of parts: bit n stands for part n.
 pub type Mask = u8;
+
+// A part that a host has, by its number.
+#[derive(Clone, Copy, PartialEq, Eq, Debug)]
+pub struct Part {
+    pub number: u8,
+    ghost below: { number < parts },
+}
+
+impl Part {
+    // The part of this number, where there is one.
+    pub fn new(number: u8) -> Option<Part>
+        ensures there { IsSome result ↔ (number < parts) }
+        ensures value { IfSome result (λ p. p.number ≡ number) }
+    {
+        if number >= PARTS {
+            return None;
+        }
+        Some(Part { number })
+    }
+}
 
 // The set of one part; no part from PARTS on has one.
 pub fn single(part: u8) -> Mask
