@@ -1,6 +1,7 @@
 -- Faults come by the tables of counts. Assumes nothing.
 use Rattle.std.proofs.Common.{◌≡◌, ℕ, suc, Bool, true, false, cond, eqb, ltb, List, [], ◌∷◌, length, Some, None, Ok, Err, refl, arith, ltb-false, ltb-true}
 use Rattle.std.proofs.lemmas.Bool.{lt-ltb, le-ltb}
+use Rattle.std.proofs.lemmas.Bool.Decides.{nat_tests}
 use Rattle.element.specs.declared.level.Level.{Level}
 use Rattle.element.specs.declared.head.Head.{Head}
 use Rattle.instruction.specs.declared.fault.SetFault.TheVariants.{UnknownCode, WrongCount}
@@ -20,7 +21,7 @@ module _ {E : Type 0} where
   one_faults : (f : E → E) (xs : List E) → fault_in (single (onto f (one_of xs))) ≡ fault_at (Some (1, 1)) (length xs)
   one_faults f [] = refl
   one_faults f (a ∷ []) = refl
-  one_faults f (a ∷ (b ∷ xs)) = rw (le-ltb (length (a ∷ (b ∷ xs))) 1 (omega arith), lt-ltb 1 (length (a ∷ (b ∷ xs))) (omega arith))
+  one_faults f (a ∷ (b ∷ xs)) = grind (arith, nat_tests)
 
   two_faults : (f : E × E → E) (xs : List E) → fault_in (single (onto f (two_of xs))) ≡ fault_at (Some (2, 2)) (length xs)
   two_faults f [] = refl
