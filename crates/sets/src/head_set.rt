@@ -3,8 +3,8 @@ ghost use Rattle.sets.specs.HeadMeaning.{head_value, head_meaning};
 ghost use Rattle.sets.specs.HeadLaws.{HeadLaws};
 ghost use Rattle.sets.specs.Few.{meaning_few};
 
+use crate::codes::{Codes, answer};
 use crate::head_codes::{flip, shift, tint};
-use crate::codes::{answer, Codes};
 use element::head::Head;
 use instruction::fault::SetFault;
 use instruction::set::InstructionSet;

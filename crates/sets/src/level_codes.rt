@@ -10,8 +10,10 @@ use instruction::fault::SetFault;
 fn highest_of(first: Level, rest: &[Level]) -> Level
     ensures { result ≡ highest first rest.now }
 {
-    rest.iter()
-        .fold(first, |best, x| if best.value < x.value { *x } else { best })
+    rest.iter().fold(
+        first,
+        |best, x| if best.value < x.value { *x } else { best },
+    )
 }
 
 // The highest of one to eight levels.

@@ -3,8 +3,8 @@ ghost use Rattle.sets.specs.LevelMeaning.{level_value, level_meaning};
 ghost use Rattle.sets.specs.LevelLaws.{LevelLaws};
 ghost use Rattle.sets.specs.Few.{meaning_few};
 
+use crate::codes::{Codes, answer};
 use crate::level_codes::{curve, fade, raise, scale, top};
-use crate::codes::{answer, Codes};
 use element::level::Level;
 use instruction::fault::SetFault;
 use instruction::set::InstructionSet;
