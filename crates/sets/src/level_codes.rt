@@ -10,10 +10,7 @@ use instruction::fault::SetFault;
 fn highest_of(first: Level, rest: &[Level]) -> Level
     ensures { result ≡ highest first rest.now }
 {
-    rest.iter().fold(
-        first,
-        |best, x| if best.value < x.value { *x } else { best },
-    )
+    rest.iter().fold(first, |best, x| best.max(*x))
 }
 
 // The highest of one to eight levels.
