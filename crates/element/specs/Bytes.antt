@@ -1,6 +1,7 @@
 -- The parts of a colour are bytes. Assumes nothing.
 use Rattle.std.specs.Prelude.{◌≡◌, ◌%◌, Bool, true, ◌&&◌, nat_lt, refl}
-use Rattle.std.proofs.Common.{arith, lt-ltb}
+use Rattle.std.proofs.Common.{arith}
+use Rattle.std.proofs.lemmas.Bool.Decides.{nat_tests}
 use Rattle.element.specs.declared.colour.Colour.{Colour}
 use Rattle.element.specs.declared.colour.Colour.TheVariants.{Open, Slot, Mix}
 
@@ -16,11 +17,7 @@ low_bytes Open = Open
 low_bytes (Slot n) = Slot (n % 256)
 low_bytes (Mix r g b) = Mix (r % 256) (g % 256) (b % 256)
 
-all_three : (a b c : Bool) → a ≡ true → b ≡ true → c ≡ true → (a && (b && c)) ≡ true
-all_three a b c p q r = rw (p, q, r)
-
 pub low_in_bytes : (c : Colour) → in_bytes (low_bytes c) ≡ true
 low_in_bytes Open = refl
-low_in_bytes (Slot n) = lt-ltb (n % 256) 256 (omega arith)
-low_in_bytes (Mix r g b) =
-    all_three _ _ _ (lt-ltb (r % 256) 256 (omega arith)) (lt-ltb (g % 256) 256 (omega arith)) (lt-ltb (b % 256) 256 (omega arith))
+low_in_bytes (Slot n) = grind (arith, nat_tests)
+low_in_bytes (Mix r g b) = grind (arith, nat_tests)

@@ -14,12 +14,12 @@ pub enum Colour {
     Mix { red: u8, green: u8, blue: u8 },
 }
 
-impl Colour {
-    // The word of this colour: its case in the top byte, its parts below.
-    pub fn word(self) -> u32
-        ensures { result ≡ colour_word self }
-    {
-        match self {
+// The word of a colour: its case in the top byte, its parts below.
+impl From<Colour> for u32 {
+    ghost from_gives = { λ c w. w ≡ colour_word c };
+
+    fn from(colour: Colour) -> u32 {
+        match colour {
             Colour::Open => 0,
             Colour::Slot(n) => 0x01000000 + n as u32,
             Colour::Mix { red, green, blue } => 0x02000000
@@ -28,11 +28,13 @@ impl Colour {
                 + blue as u32,
         }
     }
+}
 
-    // The colour that a word says, by its top byte.
-    pub fn from_word(word: u32) -> Colour
-        ensures { result ≡ word_colour word }
-    {
+// The colour that a word says, by its top byte.
+impl From<u32> for Colour {
+    ghost from_gives = { λ w c. c ≡ word_colour w };
+
+    fn from(word: u32) -> Colour {
         match word / 0x01000000 {
             1 => Colour::Slot((word % 256) as u8),
             2 => Colour::Mix {

@@ -6,7 +6,7 @@ pub mod packing;
 pub mod show;
 
 #[repr(C)]
-#[derive(Clone, Copy, PartialEq, Eq, Debug)]
+#[derive(Clone, Copy, PartialEq, Eq, PartialOrd, Ord, Debug)]
 pub struct Level {
     pub value: u8,
     ghost byte: { value < 256 },

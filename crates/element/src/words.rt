@@ -5,3 +5,11 @@ pub struct Words {
     pub first: u32,
     pub second: u32,
 }
+
+impl Words {
+    // Two words of zero, as the null element packs.
+    pub const ZERO: Words = Words {
+        first: 0,
+        second: 0,
+    };
+}

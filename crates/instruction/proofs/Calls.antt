@@ -1,22 +1,15 @@
 -- A call case by case. Assumes nothing.
-use Rattle.std.proofs.Common.{◌≡◌, ℕ, ◌≤◌, List, [], ◌∷◌, ◌++◌, length, take, drop, Ok, Err, Result, sym, refl, ap}
+use Rattle.std.proofs.Common.{◌≡◌, ℕ, ◌≤◌, List, length, drop, Ok, Err, Result, sym, refl, ap}
+use Rattle.std.proofs.Math.Seq.{take-append_seam, drop-append_seam}
 use Rattle.std.proofs.lemmas.Bool.{lt-ltb, le-ltb}
 use Rattle.instruction.specs.declared.fault.SetFault.{SetFault}
 use Rattle.instruction.specs.declared.fault.SetFault.TheVariants.{FewPlaces}
 use Rattle.instruction.specs.Outcomes.{counted, laid, Called, Stands, Applied}
 
-take_exact : {W : Type 0} (ws vs : List W) → take (length ws) (ws ++ vs) ≡ ws
-take_exact [] vs = refl
-take_exact (w ∷ ws) vs = ap (λ (l : List _). w ∷ l) (take_exact ws vs)
-
-drop_exact : {W : Type 0} (ws vs : List W) → drop (length ws) (ws ++ vs) ≡ vs
-drop_exact [] vs = refl
-drop_exact (w ∷ ws) vs = drop_exact ws vs
-
 stands : {E : Type 0} (m : Result (List E) SetFault) (before : List E) → ((vs : List E) → m ≡ Ok vs → length vs ≤ 4)
     → Stands m before (laid before m) (counted m)
 stands (Ok vs) before few =
-    (ap (λ (l : List _). Ok l) (sym (take_exact vs (drop (length vs) before))), few vs refl, drop_exact vs (drop (length vs) before))
+    (ap (λ (l : List _). Ok l) (sym (take-append_seam vs (drop (length vs) before))), few vs refl, drop-append_seam vs (drop (length vs) before))
 stands (Err f) before few = (refl, refl)
 
 pub applied : {E : Type 0} (m : Result (List E) SetFault) (before after : List E) (r : Result ℕ SetFault)

@@ -10,11 +10,11 @@ pub trait InstructionSet<E: Element> {
     // What a code makes of a list of elements: other elements, or a fault.
     ghost meaning: { Self → ℕ → List E → Result (List E) SetFault };
 
-    // It never makes more than four.
-    ghost few: { (s : Self) (code : ℕ) (xs : List E) (vs : List E) → meaning s code xs ≡ Ok vs → length vs ≤ 4 };
-
     // Puts what the code means into the first places and says how many they are. The meaning stays.
     fn call(&mut self, code: u8, args: &[E], places: &mut [E]) -> Result<usize, SetFault>
         ensures called { Called (meaning self.old code args.now) places.old places.new result }
         ensures same { meaning self.new ≡ meaning self.old };
+
+    // It never makes more than four.
+    ghost few: { (s : Self) (code : ℕ) (xs : List E) (vs : List E) → meaning s code xs ≡ Ok vs → length vs ≤ 4 };
 }

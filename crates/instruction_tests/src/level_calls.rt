@@ -5,7 +5,7 @@ use instruction::fault::SetFault;
 use sets::level_set::LevelSet;
 
 fn levels(a: u8, b: u8, c: u8, d: u8) -> [Level; 4] {
-    [Level::new(a), Level::new(b), Level::new(c), Level::new(d)]
+    [a, b, c, d].map(Level::new)
 }
 
 #[test]

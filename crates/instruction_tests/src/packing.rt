@@ -66,21 +66,18 @@ fn heads_come_back(rt: HostRuntime) {
     assert_eq!(rt; Head::unpack(last.pack()), last);
     assert_eq!(rt;
         Head::null().pack(),
-        Words {
-            first: 0,
-            second: 0,
-        }
+        Words::ZERO
     );
 }
 
 #[test]
 fn odd_colour_words(rt: HostRuntime) {
-    assert_eq!(rt; Colour::from_word(0x00ffffff), Colour::Open);
-    assert_eq!(rt; Colour::from_word(0x03000001), Colour::Open);
-    assert_eq!(rt; Colour::from_word(0xff000001), Colour::Open);
-    assert_eq!(rt; Colour::from_word(0x01ffff07), Colour::Slot(7));
+    assert_eq!(rt; Colour::from(0x00ffffff), Colour::Open);
+    assert_eq!(rt; Colour::from(0x03000001), Colour::Open);
+    assert_eq!(rt; Colour::from(0xff000001), Colour::Open);
+    assert_eq!(rt; Colour::from(0x01ffff07), Colour::Slot(7));
     assert_eq!(rt;
-        Colour::from_word(0x02010203),
+        Colour::from(0x02010203),
         Colour::Mix {
             red: 1,
             green: 2,

@@ -65,11 +65,11 @@ highest_top a (x ∷ xs) =
     (among_at (ltb a.value x.value) v a x xs h.0, over_more v a x xs h.1)
 
 top_is : (b : Bool) (a : Level) (xs : List Level) (v : Level) → single (cond b (Err WrongCount) (Ok (highest a xs))) ≡ Ok (v ∷ []) → highest a xs ≡ v
-top_is true a xs v e = let z : ◌≡◌ {A = ℕ} 0 1 = cc in absurd (omega arith)
+top_is true a xs v e = cc
 top_is false a xs v e = cc
 
 pub tops : (xs : List Level) (v : Level) → level_meaning 2 xs ≡ Ok (v ∷ []) → Among v xs × NoneOver v xs
-tops [] v e = let z : ◌≡◌ {A = ℕ} 0 1 = cc in absurd (omega arith)
+tops [] v e = cc
 tops (a ∷ xs) v e =
     subst (λ (w : Level). Among w (a ∷ xs) × NoneOver w (a ∷ xs)) (top_is (ltb 7 (length xs)) a xs v e) (highest_top a xs)
 

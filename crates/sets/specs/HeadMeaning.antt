@@ -4,7 +4,7 @@ use Rattle.element.specs.declared.head.Head.{Head}
 use Rattle.element.specs.Heads.{head}
 use Rattle.instruction.specs.declared.fault.SetFault.{SetFault}
 use Rattle.instruction.specs.declared.fault.SetFault.TheVariants.{UnknownCode}
-use Rattle.sets.specs.Takes.{all_of, one_of, two_of, onto, single}
+use Rattle.sets.specs.Takes.{one_of, two_of, onto, meaning_of}
 
 -- the aim of a with the colour of b
 abbrev pub tinted : Head → Head → Head
@@ -28,4 +28,4 @@ head_value code xs =
 
 -- code 1 gives its elements back
 abbrev pub head_meaning : ℕ → List Head → Result (List Head) SetFault
-head_meaning code xs = cond (code == 1) (all_of xs) (single (head_value code xs))
+head_meaning = meaning_of head_value

@@ -1,17 +1,16 @@
 -- The level set: what each code makes of a list of levels. Assumes nothing.
-use Rattle.std.specs.Prelude.{ℕ, ◌+◌, ◌-◌, ◌*◌, ◌/◌, min, cond, List, [], ◌∷◌, length, Ok, Err, Result, ◌==◌, nat_lt}
+use Rattle.std.specs.Prelude.{ℕ, ◌+◌, ◌-◌, ◌*◌, ◌/◌, min, cond, List, [], ◌∷◌, length, fold, Ok, Err, Result, ◌==◌, nat_lt}
 use Rattle.element.specs.declared.level.Level.{Level}
 use Rattle.element.specs.Levels.{level}
 use Rattle.instruction.specs.declared.fault.SetFault.{SetFault}
 use Rattle.instruction.specs.declared.fault.SetFault.TheVariants.{UnknownCode, WrongCount}
-use Rattle.sets.specs.Takes.{all_of, one_of, two_of, three_of, onto, single}
+use Rattle.sets.specs.Takes.{one_of, two_of, three_of, onto, meaning_of}
 
 abbrev pub higher : Level → Level → Level
 higher a b = cond (nat_lt a.value b.value) b a
 
 abbrev pub highest : Level → List Level → Level
-highest a [] = a
-highest a (x ∷ xs) = highest (higher a x) xs
+highest = fold higher
 
 -- the highest of one to eight
 abbrev pub top_of : List Level → Result Level SetFault
@@ -45,4 +44,4 @@ level_value code xs =
 
 -- code 1 gives its elements back
 abbrev pub level_meaning : ℕ → List Level → Result (List Level) SetFault
-level_meaning code xs = cond (code == 1) (all_of xs) (single (level_value code xs))
+level_meaning = meaning_of level_value

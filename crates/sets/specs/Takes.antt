@@ -1,5 +1,5 @@
 -- How many elements an instruction takes. Assumes nothing.
-use Rattle.std.specs.Prelude.{cond, List, [], ◌∷◌, length, Ok, Err, Result, nat_lt}
+use Rattle.std.specs.Prelude.{ℕ, cond, List, [], ◌∷◌, length, Ok, Err, Result, ◌==◌, nat_lt}
 use Rattle.instruction.specs.declared.fault.SetFault.{SetFault}
 use Rattle.instruction.specs.declared.fault.SetFault.TheVariants.{WrongCount}
 
@@ -34,3 +34,7 @@ onto f (Err e) = Err e
 -- one element as a list
 abbrev pub single : {E : Type 0} → Result E SetFault → Result (List E) SetFault
 single r = onto (λ v. v ∷ []) r
+
+-- code 1 gives its elements back, each other code the one element that value says
+abbrev pub meaning_of : {E : Type 0} → (ℕ → List E → Result E SetFault) → ℕ → List E → Result (List E) SetFault
+meaning_of value code xs = cond (code == 1) (all_of xs) (single (value code xs))

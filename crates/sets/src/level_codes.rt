@@ -1,31 +1,26 @@
 // What the codes of the level set compute.
 ghost use Rattle.std.specs.Prelude.{◌≡◌};
-ghost use Rattle.sets.specs.LevelMeaning.{higher, scaled, curved, faded, raised, top_of};
+ghost use Rattle.sets.specs.LevelMeaning.{highest, scaled, curved, faded, raised, top_of};
 
 use crate::curve::entry;
 use element::level::Level;
 use instruction::fault::SetFault;
 
-// The higher of two levels.
-fn higher_of(a: Level, b: Level) -> Level
-    ensures { result ≡ higher a b }
+// The highest of a level and others.
+fn highest_of(first: Level, rest: &[Level]) -> Level
+    ensures { result ≡ highest first rest.now }
 {
-    if a.value < b.value { b } else { a }
+    rest.iter().fold(first, |best, x| best.max(*x))
 }
 
 // The highest of one to eight levels.
 pub(crate) fn top(args: &[Level]) -> Result<Level, SetFault>
     ensures { result ≡ top_of args.now }
 {
-    let n = args.len();
-    if n == 0 || n > 8 {
-        return Err(SetFault::WrongCount);
+    match args {
+        [first, rest @ ..] if rest.len() < 8 => Ok(highest_of(*first, rest)),
+        _ => Err(SetFault::WrongCount),
     }
-    let mut best = args[0];
-    for i in 1..n {
-        best = higher_of(best, args[i]);
-    }
-    Ok(best)
 }
 
 // One level dimmed by another.

@@ -1,11 +1,10 @@
 // The instruction set over levels.
-ghost use Rattle.std.specs.Prelude.{◌≡◌};
 ghost use Rattle.sets.specs.LevelMeaning.{level_value, level_meaning};
 ghost use Rattle.sets.specs.LevelLaws.{LevelLaws};
-ghost use Rattle.sets.specs.Few.{level_few};
+ghost use Rattle.sets.specs.Few.{meaning_few};
 
+use crate::codes::{Codes, answer};
 use crate::level_codes::{curve, fade, raise, scale, top};
-use crate::take::{one, pass, three, two};
 use element::level::Level;
 use instruction::fault::SetFault;
 use instruction::set::InstructionSet;
@@ -23,45 +22,28 @@ impl LevelSet {
     }
 }
 
-// The one level that a code from 2 on gives.
-fn value(code: u8, args: &[Level]) -> Result<Level, SetFault>
-    ensures { result ≡ level_value code args.now }
-{
-    match code {
-        2 => top(args),
-        3 => {
-            let (a, b) = two(args)?;
-            Ok(scale(a, b))
+impl Codes<Level> for LevelSet {
+    ghost gives = { level_value };
+
+    fn value(code: u8, args: &[Level]) -> Result<Level, SetFault> {
+        match (code, args) {
+            (2, _) => top(args),
+            (3, &[a, b]) => Ok(scale(a, b)),
+            (4, &[v]) => Ok(curve(v)),
+            (5, &[a, b, t]) => Ok(fade(a, b, t)),
+            (6, &[v]) => Ok(raise(v)),
+            (3..=6, _) => Err(SetFault::WrongCount),
+            _ => Err(SetFault::UnknownCode),
         }
-        4 => {
-            let v = one(args)?;
-            Ok(curve(v))
-        }
-        5 => {
-            let (a, b, t) = three(args)?;
-            Ok(fade(a, b, t))
-        }
-        6 => {
-            let v = one(args)?;
-            Ok(raise(v))
-        }
-        _ => Err(SetFault::UnknownCode),
     }
 }
 
 impl InstructionSet<Level> for LevelSet {
     ghost meaning = { λ _. level_meaning };
 
-    ghost few = { λ s code xs vs e. level_few code xs vs e };
+    ghost few = { λ _. meaning_few level_value };
 
     fn call(&mut self, code: u8, args: &[Level], places: &mut [Level]) -> Result<usize, SetFault> {
-        if places.len() < 4 {
-            return Err(SetFault::FewPlaces);
-        }
-        if code == 1 {
-            return pass(args, places);
-        }
-        places[0] = value(code, args)?;
-        Ok(1)
+        answer::<Level, LevelSet>(code, args, places)
     }
 }

@@ -22,9 +22,9 @@ impl Element for Head {
         same_head (omega (arith, x.panned, x.tilted)) (omega (arith, x.tilted))
         (ap low_bytes (colour_back x.colour x.coloured) ∙ low_same x.colour x.coloured) };
 
-    ghost zero = { first_of (Prim.search rules, Prim.grind (arith, Self.row.coded.inj)) };
+    ghost zero = { Prim.search rules };
 
-    ghost narrow = { first_of (Prim.search rules, Prim.grind (arith, Self.row.coded.inj)) };
+    ghost narrow = { Prim.search rules };
 
     fn null() -> Head {
         Head::new(0, 0, Colour::Open)
@@ -33,7 +33,7 @@ impl Element for Head {
     fn pack(self) -> Words {
         Words {
             first: self.pan as u32 * 65536 + self.tilt as u32,
-            second: self.colour.word(),
+            second: u32::from(self.colour),
         }
     }
 
@@ -41,7 +41,7 @@ impl Element for Head {
         Head::new(
             (words.first / 65536) as u16,
             (words.first % 65536) as u16,
-            Colour::from_word(words.second),
+            Colour::from(words.second),
         )
     }
 }

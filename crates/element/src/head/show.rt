@@ -9,9 +9,7 @@ impl fmt::Display for Head {
     ghost output = { λ h. Some (head_text h) };
 
     fn fmt<W: fmt::Write>(&self, f: &mut fmt::Formatter<W>) -> fmt::Result {
-        let pan = self.pan;
-        let tilt = self.tilt;
-        let colour = self.colour;
+        let Head { pan, tilt, colour } = *self;
         write!(f, "pan {pan} tilt {tilt} {colour}")
     }
 }

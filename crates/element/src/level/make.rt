@@ -10,15 +10,13 @@ impl Level {
         ensures is { result ≡ level value }
         ensures exact { result.value ≡ value }
     {
-        Level::from_low_bits(value as u32)
+        Level { value }
     }
 
     // The level in the low 8 bits of a word.
     pub fn from_low_bits(word: u32) -> Level
         ensures { result ≡ level word }
     {
-        Level {
-            value: (word % 256) as u8,
-        }
+        Level::new((word % 256) as u8)
     }
 }

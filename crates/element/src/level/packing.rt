@@ -16,9 +16,9 @@ impl Element for Level {
 
     ghost round = { λ x. same_level (omega (arith, x.byte)) };
 
-    ghost zero = { first_of (Prim.search rules, Prim.grind (arith, Self.row.coded.inj)) };
+    ghost zero = { Prim.search rules };
 
-    ghost narrow = { first_of (Prim.search rules, Prim.grind (arith, Self.row.coded.inj)) };
+    ghost narrow = { Prim.search rules };
 
     fn null() -> Level {
         Level::new(0)

@@ -9,7 +9,6 @@ impl fmt::Display for Level {
     ghost output = { λ l. Some (level_text l) };
 
     fn fmt<W: fmt::Write>(&self, f: &mut fmt::Formatter<W>) -> fmt::Result {
-        let value = self.value;
-        write!(f, "{value}")
+        write!(f, "{}", self.value)
     }
 }

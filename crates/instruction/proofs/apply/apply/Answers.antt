@@ -8,6 +8,6 @@ returns g c =
     let xs = c.args.args.now in
     record {
       applied = applied (g.I.InstructionSet.meaning set code xs) c.args.places.now c.call.new.places c.call.result
-          (g.I.InstructionSet.few set code xs) c.call.ensures.called;
+          (g.met.I.InstructionSet.few set code xs) c.call.ensures.called;
       same = c.call.ensures.same;
     }
