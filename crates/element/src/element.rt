@@ -9,7 +9,7 @@ pub trait Element: Copy {
     // The null element.
     ghost blank: { Self };
 
-    // The two words of an element.
+    // The two words of an element. Packing is no `From`, since the laws below need a function, and a conversion has a relation.
     ghost packed: { Self → Words };
 
     // The element of any two words.

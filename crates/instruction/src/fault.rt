@@ -13,7 +13,7 @@ pub enum SetFault {
 }
 
 impl SetFault {
-    // The fault's number: 1, 2 or 3.
+    // The fault's number: 1, 2 or 3. A name says more than `u8::from` of what a reply holds.
     pub fn number(self) -> u8
         ensures { result ≡ fault_number self }
     {

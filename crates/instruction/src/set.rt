@@ -11,6 +11,7 @@ pub trait InstructionSet<E: Element> {
     ghost meaning: { Self → ℕ → List E → Result (List E) SetFault };
 
     // Puts what the code means into the first places and says how many they are. The meaning stays.
+    // The places are lent by the host's caller over C, and too few of them is a fault.
     fn call(&mut self, code: u8, args: &[E], places: &mut [E]) -> Result<usize, SetFault>
         ensures called { Called (meaning self.old code args.now) places.old places.new result }
         ensures same { meaning self.new ≡ meaning self.old };

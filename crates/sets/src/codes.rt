@@ -7,7 +7,7 @@ ghost use Rattle.sets.specs.Takes.{all_of, meaning_of};
 use element::element::Element;
 use instruction::fault::SetFault;
 
-// The codes of a set without state, each of which gives one element; code 1, which gives its elements back, is left to `answer`.
+// The codes from 2 on of a set without state: each gives one element.
 pub(crate) trait Codes<E: Element> {
     // What a code from 2 on makes of a list of elements.
     ghost gives: { ℕ → List E → Result E SetFault };
@@ -31,7 +31,7 @@ fn pass<E: Copy>(args: &[E], places: &mut [E]) -> Result<usize, SetFault>
     Ok(n)
 }
 
-// Answers a call of a set with these codes.
+// Answers a call of a set with these codes and code 1, which gives its elements back.
 pub(crate) fn answer<E: Element, C: Codes<E>>(
     code: u8,
     args: &[E],

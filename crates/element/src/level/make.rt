@@ -13,7 +13,7 @@ impl Level {
         Level { value }
     }
 
-    // The level in the low 8 bits of a word.
+    // The level in the low 8 bits of a word. Its name says that it drops the others, as a `From` would not.
     pub fn from_low_bits(word: u32) -> Level
         ensures { result ≡ level word }
     {
