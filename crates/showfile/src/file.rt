@@ -40,9 +40,8 @@ fn next_index(bytes: &[u8], i: u16) -> u16
 fn record_at<'a>(bytes: &'a [u8], i: u16) -> &'a [u8]
     ensures { result.now ≡ record_at bytes.now i }
 {
-    let start = (RECORD * i as usize).min(bytes.len());
-    let end = (start + RECORD).min(bytes.len());
-    &bytes[start..end]
+    let rest = bytes.get(RECORD * i as usize..).unwrap_or(&[]);
+    rest.get(..RECORD).unwrap_or(rest)
 }
 
 // Whether the head holds nothing but a next index.
