@@ -14,18 +14,39 @@ pub enum Kind {
     Receive = 5,
 }
 
-impl Kind {
-    // The kind that a record's kind byte names.
-    pub fn of(byte: u8) -> Option<Kind>
-        ensures { Named byte result }
-    {
+// A byte that names no kind.
+#[derive(Clone, Copy, PartialEq, Eq, Debug)]
+pub struct UnknownKind(pub u8);
+
+// The kind that a record's kind byte names.
+impl TryFrom<u8> for Kind {
+    type Error = UnknownKind;
+
+    ghost try_from_gives = { Named };
+
+    fn try_from(byte: u8) -> Result<Kind, UnknownKind> {
         match byte {
-            1 => Some(Kind::Restore),
-            2 => Some(Kind::Save),
-            3 => Some(Kind::Instruct),
-            4 => Some(Kind::Send),
-            5 => Some(Kind::Receive),
-            _ => None,
+            1 => Ok(Kind::Restore),
+            2 => Ok(Kind::Save),
+            3 => Ok(Kind::Instruct),
+            4 => Ok(Kind::Send),
+            5 => Ok(Kind::Receive),
+            _ => Err(UnknownKind(byte)),
+        }
+    }
+}
+
+impl Kind {
+    // The kind's name.
+    pub fn name(self) -> &'static str
+        ensures { result.now ≡ kind_text self }
+    {
+        match self {
+            Kind::Restore => "restore",
+            Kind::Save => "save",
+            Kind::Instruct => "instruct",
+            Kind::Send => "send",
+            Kind::Receive => "receive",
         }
     }
 
@@ -51,17 +72,10 @@ impl Kind {
     }
 }
 
-// The kind's name.
 impl fmt::Display for Kind {
     ghost output = { λ k. Some (kind_text k) };
 
     fn fmt<W: fmt::Write>(&self, f: &mut fmt::Formatter<W>) -> fmt::Result {
-        match *self {
-            Kind::Restore => f.write_str("restore"),
-            Kind::Save => f.write_str("save"),
-            Kind::Instruct => f.write_str("instruct"),
-            Kind::Send => f.write_str("send"),
-            Kind::Receive => f.write_str("receive"),
-        }
+        f.write_str(self.name())
     }
 }

@@ -1,6 +1,8 @@
 ghost use Rattle.std.specs.Prelude.{◌≡◌, Some};
+ghost use Rattle.command.specs.declared.malformed.Malformed.TheVariants.{Kind};
 ghost use Rattle.command.specs.Commands.{number_of, detail_of, malformed_text};
 
+use crate::kind::UnknownKind;
 use std::fmt;
 
 // Why bytes are no command.
@@ -35,6 +37,14 @@ impl Malformed {
             Malformed::Kind => 3,
             Malformed::Shape(at) => at,
         }
+    }
+}
+
+impl From<UnknownKind> for Malformed {
+    ghost from_gives = { λ _ m. m ≡ Kind };
+
+    fn from(_unknown: UnknownKind) -> Malformed {
+        Malformed::Kind
     }
 }
 

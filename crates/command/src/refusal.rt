@@ -1,4 +1,5 @@
 ghost use Rattle.std.specs.Prelude.{◌≡◌};
+ghost use Rattle.command.specs.declared.refusal.Refusal.TheVariants.{Malformed};
 ghost use Rattle.command.specs.Answers.{refusal_number, refusal_detail};
 
 use crate::malformed::Malformed;
@@ -53,5 +54,13 @@ impl Refusal {
             Refusal::Set(fault) => fault,
             Refusal::Scratch | Refusal::Size | Refusal::Turn => 0,
         }
+    }
+}
+
+impl From<Malformed> for Refusal {
+    ghost from_gives = { λ why r. r ≡ Malformed why };
+
+    fn from(why: Malformed) -> Refusal {
+        Refusal::Malformed(why)
     }
 }

@@ -20,7 +20,7 @@ impl<'a, E: Element + fmt::Display> fmt::Display for Row<'a, E> {
         let r = self.logged;
         let place = r.place;
         let part = r.part;
-        let kind = kind_name(Kind::of(r.kind));
+        let kind = kind_name(Kind::try_from(r.kind).ok());
         let outcome = Outcome::<E> {
             logged: *r,
             kind: PhantomData,

@@ -1,5 +1,5 @@
 -- Chains by place: a chain that goes on for as many records as the file has never ends. Assumes nothing.
-use Rattle.std.proofs.Common.{◌≡◌, ℕ, zero, suc, ◌+◌, ◌-◌, ◌<◌, ◌≤◌, cond, eqb, ◌⊎◌, List, ◌∷◌, length, sym, refl, ap, ◌∙◌, subst, inl, inr, ⊎_elim, suc-le-suc, zero-le, add-zero, add-suc, add-one, arith, below_none, below_more}
+use Rattle.std.proofs.Common.{◌≡◌, ℕ, zero, suc, ◌+◌, ◌-◌, ◌<◌, ◌≤◌, cond, eqb, ◌⊎◌, List, length, sym, refl, ap, ◌∙◌, subst, inl, inr, ⊎_elim, suc-le-suc, zero-le, add-zero, add-suc, add-one, arith, below_none, below_more}
 use Rattle.std.proofs.lemmas.Bool.{cases_lt}
 use Rattle.std.proofs.lemmas.Bool.Decides.{nat_tests}
 use Rattle.showfile.specs.Chain.{records, next_of, Link, Reaches, here, onward, Chain, ends, goes, Stays, NeverZero, links}
@@ -104,9 +104,3 @@ chain_links bs i (suc n) far stop =
 pub length-links : (bs : List ℕ) (i n : ℕ) → length (links bs i n) ≡ n
 length-links bs i zero = refl
 length-links bs i (suc n) = ap suc (length-links bs (next_of bs i) n)
-
--- the records to come after the next one
-pub links_less : (bs : List ℕ) (i n : ℕ) → 0 < n → links bs i n ≡ next_of bs i ∷ links bs (next_of bs i) (n - 1)
-links_less bs i n h =
-    let e : n ≡ suc (n - 1) = omega arith in
-    ap (links bs i) e

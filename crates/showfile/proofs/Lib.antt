@@ -1,3 +1,2 @@
 pub mod Cycle
 pub mod Exact
-pub mod Parts

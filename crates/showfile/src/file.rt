@@ -1,5 +1,5 @@
-ghost use Rattle.std.specs.Prelude.{◌≡◌, ℕ, ◌^◌, ◌<◌, ◌≤◌, length, slice_index};
-ghost use Rattle.showfile.specs.Chain.{records, record_at, next_of, Sized};
+ghost use Rattle.std.specs.Prelude.{◌≡◌, ◌^◌, ◌<◌, ◌↔◌, IsTrue, length, slice_index};
+ghost use Rattle.showfile.specs.Chain.{records, record_at, next_of, Sized, Clean};
 ghost use Rattle.showfile.specs.Opening.{rest, Opened, Cases, Walked, Steps};
 ghost use Rattle.std.specs.Iterator.{at_most};
 
@@ -25,7 +25,7 @@ pub struct ShowFile<'a> {
 fn byte_at(bytes: &[u8], i: usize) -> u8
     ensures { result ≡ slice_index bytes.now i }
 {
-    if i < bytes.len() { bytes[i] } else { 0 }
+    bytes.get(i).copied().unwrap_or(0)
 }
 
 // The next index that record `i` holds.
@@ -33,30 +33,22 @@ fn next_index(bytes: &[u8], i: u16) -> u16
     ensures { result ≡ next_of bytes.now i }
 {
     let start = RECORD * i as usize;
-    byte_at(bytes, start) as u16 + 256 * byte_at(bytes, start + 1) as u16
+    u16::from_le_bytes([byte_at(bytes, start), byte_at(bytes, start + 1)])
 }
 
 // The bytes of record `i`.
 fn record_at<'a>(bytes: &'a [u8], i: u16) -> &'a [u8]
     ensures { result.now ≡ record_at bytes.now i }
 {
-    let start = (RECORD * i as usize).min(bytes.len());
-    let end = (start + RECORD).min(bytes.len());
-    &bytes[start..end]
+    let rest = bytes.get(RECORD * i as usize..).unwrap_or(&[]);
+    rest.get(..RECORD).unwrap_or(rest)
 }
 
-// The first place from 2 on whose byte of the head is not zero, or 32.
-fn first_in_head(bytes: &[u8]) -> usize
-    ensures within { (2 ≤ result) × (result ≤ 32) }
-    ensures before { (k : ℕ) → 2 ≤ k → k < result → slice_index bytes.now k ≡ 0 }
-    ensures found { result < 32 → 0 < slice_index bytes.now result }
+// Whether the head holds nothing but a next index.
+fn is_clean(bytes: &[u8]) -> bool
+    ensures { IsTrue result ↔ Clean bytes.now }
 {
-    for i in 2..RECORD {
-        if byte_at(bytes, i) != 0 {
-            return i;
-        }
-    }
-    RECORD
+    (2..RECORD).all(|i| byte_at(bytes, i) == 0)
 }
 
 // How many records the chain from `start` has. One pass: a chain that goes on for as many records as the file has never ends.
@@ -88,7 +80,7 @@ fn checked<'a>(bytes: &'a [u8]) -> Result<ShowFile<'a>, FileRefusal>
     if len == 0 || len > LONGEST || len % RECORD != 0 {
         return Err(FileRefusal::Length);
     }
-    if first_in_head(bytes) < RECORD {
+    if !is_clean(bytes) {
         return Err(FileRefusal::Head);
     }
     let left = walk(bytes, 0)?;

@@ -29,12 +29,5 @@ pub fn reason(refusal: u8) -> &'static str
 pub fn kind_name(kind: Option<Kind>) -> &'static str
     ensures { result.now ≡ name_text kind }
 {
-    match kind {
-        Some(Kind::Restore) => "restore",
-        Some(Kind::Save) => "save",
-        Some(Kind::Instruct) => "instruct",
-        Some(Kind::Send) => "send",
-        Some(Kind::Receive) => "receive",
-        None => "?",
-    }
+    kind.map_or("?", Kind::name)
 }

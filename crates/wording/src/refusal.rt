@@ -20,22 +20,17 @@ impl fmt::Display for About {
     ghost output = { λ a. Some (detail_text a.0.number a.0.detail) };
 
     fn fmt<W: fmt::Write>(&self, f: &mut fmt::Formatter<W>) -> fmt::Result {
-        let number = self.0.number;
         let at = self.0.detail;
-        if number == 7 || number == 8 || number == 9 || number == 11 {
-            return write!(f, " (byte {at})");
+        match self.0.number {
+            7 | 8 | 9 | 11 => write!(f, " (byte {at})"),
+            12 if at < 8 => write!(f, " (argument {at})"),
+            12 => {
+                let result = at - 8;
+                write!(f, " (result {result})")
+            }
+            13 => write!(f, " (set fault {at})"),
+            _ => Ok(()),
         }
-        if number == 12 && at < 8 {
-            return write!(f, " (argument {at})");
-        }
-        if number == 12 {
-            let result = at - 8;
-            return write!(f, " (result {result})");
-        }
-        if number == 13 {
-            return write!(f, " (set fault {at})");
-        }
-        Ok(())
     }
 }
 
