@@ -6,10 +6,9 @@ use Rattle.element.specs.declared.element.Element.{Ghosts as Elements}
 use Rattle.element.specs.declared.words.Words.{Words}
 use Rattle.store.specs.declared.access.Access.{Access}
 use Rattle.store.specs.declared.access.Access.TheVariants.{Read, Write}
-use Rattle.store.specs.declared.access.Answer.{Answer}
 use Rattle.store.specs.declared.fault.StoreFault.TheVariants.{Beyond}
 use Rattle.store.specs.Meaning.{element}
-use Rattle.store.specs.Sequences.{of_read, of_write, answer, after, answers, after_all}
+use Rattle.store.specs.Sequences.{AnswerOf, of_read, of_write, answer, after, answers, after_all}
 use Rattle.store.proofs.Within.{element_beyond}
 use Rattle.layer.specs.Holds.{apart, held_for, outgoing, laid}
 use Rattle.layer.specs.Layers.{Layer, Call, ask, flushing, fresh, asked, meaning, looked, layer_element, holding, flushed, layer_after, layer_answer, layer_answers, layer_after_all, Transparent}
@@ -65,7 +64,7 @@ module _ {E : Type 0} (el : Elements E) where
     answers_right : (l : Layer E) (calls : List (Call E)) → apart l.held ≡ true → layer_answers el l calls ≡ answers (meaning el l) (asked calls)
     answers_right l [] s = refl
     answers_right l (ask a ∷ more) s =
-        ap₂ (λ (r : Answer E) (rs : List (Answer E)). r ∷ rs) (answer_right l a s)
+        ap₂ (λ (r : AnswerOf E) (rs : List (AnswerOf E)). r ∷ rs) (answer_right l a s)
         (answers_right (layer_after el l a) more (after_apart l a s) ∙ ap (λ (xs : List E). answers xs (asked more)) (after_right l a s))
     answers_right l (flushing ∷ more) s = answers_right (flushed el l) more refl
 

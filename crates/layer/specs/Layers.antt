@@ -4,11 +4,10 @@ use Rattle.element.specs.declared.element.Element.{Ghosts as Elements}
 use Rattle.element.specs.declared.words.Words.{Words}
 use Rattle.store.specs.declared.access.Access.{Access}
 use Rattle.store.specs.declared.access.Access.TheVariants.{Read, Write}
-use Rattle.store.specs.declared.access.Answer.{Answer}
 use Rattle.store.specs.declared.fault.StoreFault.{StoreFault}
 use Rattle.store.specs.declared.fault.StoreFault.TheVariants.{Beyond}
 use Rattle.store.specs.Meaning.{element, accepted}
-use Rattle.store.specs.Sequences.{of_read, of_write, answers, after_all}
+use Rattle.store.specs.Sequences.{AnswerOf, of_read, of_write, answers, after_all}
 use Rattle.layer.specs.declared.held_write.HeldWrite.{HeldWrite}
 use Rattle.layer.specs.declared.table.Table.{Table}
 use Rattle.layer.specs.Holds.{held_for, placed, outgoing, laid}
@@ -65,12 +64,12 @@ module _ {E : Type 0} (el : Elements E) where
   layer_after l (Read n) = l
   layer_after l (Write n x) = cond (nat_lt n (length l.below)) (holding l n x) l
 
-  abbrev pub layer_answer : Layer E → Access E → Answer E
+  abbrev pub layer_answer : Layer E → Access E → AnswerOf E
   layer_answer l (Read n) = of_read (layer_element l n)
   layer_answer l (Write n x) = of_write (accepted l.below n)
 
   -- the same of calls, one after another; a flush has no answer
-  abbrev pub layer_answers : Layer E → List (Call E) → List (Answer E)
+  abbrev pub layer_answers : Layer E → List (Call E) → List (AnswerOf E)
   layer_answers l [] = []
   layer_answers l (ask a ∷ more) = layer_answer l a ∷ layer_answers (layer_after l a) more
   layer_answers l (flushing ∷ more) = layer_answers (flushed l) more

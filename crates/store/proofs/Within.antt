@@ -1,7 +1,9 @@
 -- A cell below the size, and one that is not.
-use Rattle.std.proofs.Common.{◌≡◌, ℕ, zero, suc, ◌<◌, ◌≤◌, List, [], ◌∷◌, length, get_or, set, Ok, Err, sym, refl, ap, ◌∙◌, arith}
+use Rattle.std.proofs.Common.{◌≡◌, ℕ, zero, suc, ◌<◌, ◌≤◌, List, [], ◌∷◌, length, get_or, set, Some, None, Option, Ok, Err, Result, Bor, IsErr, subst, sym, refl, ap, ◌∙◌, arith}
 use Rattle.std.proofs.lemmas.List.{set_past}
 use Rattle.std.proofs.lemmas.Bool.{lt-ltb, le-ltb}
+use Rattle.std.specs.Option.{ok_or, option_copied}
+use Rattle.std.specs.Slice.{IsItemAt}
 use Rattle.store.specs.declared.fault.StoreFault.{StoreFault}
 use Rattle.store.specs.declared.fault.StoreFault.TheVariants.{Beyond}
 use Rattle.store.specs.Meaning.{element, Reads, Writes}
@@ -16,12 +18,27 @@ element_beyond [] n h = refl
 element_beyond (x ∷ xs) zero h = absurd (omega arith)
 element_beyond (x ∷ xs) (suc n) h = element_beyond xs n (omega arith)
 
--- a read that leaves the meaning
-pub reads_within : {E : Type 0} (xs ys : List E) (n : ℕ) (x : E) → n < length xs → x ≡ get_or xs n x → ys ≡ xs → Reads xs n (Ok x) ys
-reads_within xs ys n x h e k = record { answer = ap Ok e ∙ sym (element_within xs n x h); kept = k }
+-- what `get` finds, as a store answers it
+pub element_got : {E : Type 0} (xs : List E) (n : ℕ) (o : Option (Bor E)) → IsItemAt xs n o → element xs n ≡ ok_or (option_copied o) Beyond
+element_got xs n None h = element_beyond xs n h.3
+element_got xs n (Some x) h = element_within xs n x.now h.3.0 ∙ ap Ok (sym h.1)
 
+pub got_beyond : {X : Type 0} (xs : List X) (n : ℕ) (o : Option (Bor X)) (r : Result (Bor X) StoreFault) (f : StoreFault) → IsItemAt xs n o → r ≡ ok_or o Beyond → r ≡ Err f → length xs ≤ n
+got_beyond xs n None r f h d e = h.3
+got_beyond xs n (Some x) r f h d e = let w : ◌≡◌ {A = ℕ} 0 1 = cc in absurd (omega arith)
+
+pub got_within : {X : Type 0} (xs : List X) (n : ℕ) (o : Option (Bor X)) (r : Result (Bor X) StoreFault) (x : Bor X) → IsItemAt xs n o → r ≡ ok_or o Beyond → r ≡ Ok x → (n < length xs) × (x.now ≡ get_or xs n x.now)
+got_within xs n None r x h d e = let w : ◌≡◌ {A = ℕ} 0 1 = cc in absurd (omega arith)
+got_within xs n (Some y) r x h d e = let q : y ≡ x = cc in (h.3.0, subst (λ (z : Bor _). z.now ≡ get_or xs n z.now) q h.1)
+
+-- a read beyond the size
 pub reads_beyond : {E : Type 0} (xs ys : List E) (n : ℕ) → length xs ≤ n → ys ≡ xs → Reads xs n (Err Beyond) ys
 reads_beyond xs ys n h k = record { answer = sym (element_beyond xs n h); kept = k }
+
+-- the refusal has one kind
+pub reads_refused : {E : Type 0} (xs : List E) (n : ℕ) (r : Result E StoreFault) → IsErr r → length xs ≤ n → Reads xs n r xs
+reads_refused xs n (Err Beyond) t h = reads_beyond xs xs n h refl
+reads_refused xs n (Ok x) t h = let w : ◌≡◌ {A = ℕ} 0 1 = cc in absurd (omega arith)
 
 -- a write of a cell below the size, and one that alters nothing
 pub writes_within : {E : Type 0} (xs ys : List E) (n : ℕ) (x : E) → n < length xs → ys ≡ set xs n x → Writes xs n x (Ok tt) ys

@@ -7,10 +7,5 @@ pub enum Access<E> {
     Write(usize, E),
 }
 
-// What a store answers to an access.
-#[derive(Clone, Copy)]
-pub enum Answer<E> {
-    Element(E),
-    Stored,
-    Refused(StoreFault),
-}
+// What a store answers to an access: the element that was read, none for a write, or the refusal.
+pub type Answer<E> = Result<Option<E>, StoreFault>;

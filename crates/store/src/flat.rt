@@ -8,16 +8,13 @@ use element::element::Element;
 fn read_at<E: Copy>(cells: &mut [E], n: usize) -> Result<E, StoreFault>
     ensures { Reads cells.old n result cells.new }
 {
-    if n < cells.len() {
-        Ok(cells[n])
-    } else {
-        Err(StoreFault::Beyond)
-    }
+    cells.get(n).copied().ok_or(StoreFault::Beyond)
 }
 
 fn write_at<E: Copy>(cells: &mut [E], n: usize, x: E) -> Result<(), StoreFault>
     ensures { Writes cells.old n x result cells.new }
 {
+    // By its index: after a write through `get_mut` no proof knows the elements.
     if n < cells.len() {
         cells[n] = x;
         Ok(())

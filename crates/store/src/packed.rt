@@ -8,31 +8,20 @@ use element::element::Element;
 use element::words::Words;
 use std::marker::PhantomData;
 
-// How many cells the words make.
-fn pairs(list: &[u32]) -> usize
-    ensures { result ≡ length list.now / 2 }
-{
-    list.len() / 2
-}
-
 fn read_pair<E: Element>(words: &mut [u32], n: usize) -> Result<E, StoreFault>
     ensures reads { Reads (elements E.unpacked words.old) n result (elements E.unpacked words.new) }
     ensures words { words.new ≡ words.old }
 {
-    if n < words.len() / 2 {
-        Ok(E::unpack(Words {
-            first: words[2 * n],
-            second: words[2 * n + 1],
-        }))
-    } else {
-        Err(StoreFault::Beyond)
-    }
+    let (pairs, _) = words.as_chunks::<2>();
+    let [first, second] = *pairs.get(n).ok_or(StoreFault::Beyond)?;
+    Ok(E::unpack(Words { first, second }))
 }
 
 fn write_pair<E: Element>(words: &mut [u32], n: usize, x: E) -> Result<(), StoreFault>
     ensures writes { Writes (elements E.unpacked words.old) n x result (elements E.unpacked words.new) }
     ensures words { words.new ≡ rewritten result n (E.packed x) words.old }
 {
+    // By its words: after a write through `as_chunks_mut` no proof knows them.
     if n < words.len() / 2 {
         let pair = x.pack();
         words[2 * n] = pair.first;
@@ -70,7 +59,7 @@ impl<'a, E: Element> Store for Packed<'a, E> {
     ghost lender = { λ s. s.words.ghost_name ∷ [] };
 
     fn len(&self) -> usize {
-        pairs(self.words)
+        self.words.len() / 2
     }
 
     fn read(&mut self, n: usize) -> Result<E, StoreFault>

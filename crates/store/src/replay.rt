@@ -9,14 +9,8 @@ pub fn perform<S: Store>(store: &mut S, access: Access<S::Item>) -> Answer<S::It
     ensures { Performed S.Store store.old store.new access result }
 {
     match access {
-        Access::Read(n) => match store.read(n) {
-            Ok(x) => Answer::Element(x),
-            Err(fault) => Answer::Refused(fault),
-        },
-        Access::Write(n, x) => match store.write(n, x) {
-            Ok(_) => Answer::Stored,
-            Err(fault) => Answer::Refused(fault),
-        },
+        Access::Read(n) => store.read(n).map(Some),
+        Access::Write(n, x) => store.write(n, x).map(|_| None),
     }
 }
 
@@ -25,8 +19,10 @@ pub fn replay<S: Store>(store: &mut S, accesses: &[Access<S::Item>], places: &mu
     ensures { Replayed S.Store store.old store.new accesses.now
         places.old places.new }
 {
-    let count = accesses.len().min(places.len());
-    for i in 0..count {
-        places[i] = perform(store, accesses[i]);
+    for (i, place) in places.iter_mut().enumerate() {
+        let Some(access) = accesses.get(i) else {
+            break;
+        };
+        *place = perform(store, *access);
     }
 }

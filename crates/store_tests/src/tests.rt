@@ -144,9 +144,9 @@ fn longest_held_goes_first(rt: HostRuntime) {
 // An answer's level and its refusal's number.
 fn seen(answer: Answer<Level>) -> (u8, u8) {
     match answer {
-        Answer::Element(x) => (x.value, 0),
-        Answer::Stored => (0, 0),
-        Answer::Refused(fault) => (0, fault.number()),
+        Ok(Some(x)) => (x.value, 0),
+        Ok(None) => (0, 0),
+        Err(fault) => (0, fault.number()),
     }
 }
 
@@ -158,7 +158,7 @@ fn answers_through_a_layer(rt: HostRuntime) {
         Access::Read(3),
         Access::Read(4),
     ];
-    let mut places = [Answer::Stored; 3];
+    let mut places = [Ok(None); 3];
     let _flat = replay_held(Flat::new(&mut cells), &accesses, &mut places);
     let [stored, held, beyond] = places;
     assert_eq!(rt; seen(stored), (0, 0));

@@ -1,9 +1,12 @@
-use Rattle.std.proofs.Common.{refl}
-use Rattle.store.proofs.Within.{reads_within, reads_beyond}
+use Rattle.std.proofs.Common.{sym, refl, ap, ◌∙◌}
+use Rattle.std.specs.Option.{ok_or}
+use Rattle.store.specs.declared.fault.StoreFault.TheVariants.{Beyond}
+use Rattle.store.proofs.Within.{element_got}
 use Rattle.store.proofs.flat.read_at.Goals as goal
 
-pub returns-then-n-cells : goal.returns-then-n-cells
-returns-then-n-cells g c = reads_within _ _ _ _ c.if-n-cells.true c.index-cells-n.is refl
-
-pub returns-else-n-cells : goal.returns-else-n-cells
-returns-else-n-cells g c = reads_beyond _ _ _ c.if-n-cells.false refl
+pub returns : goal.returns
+returns g c =
+    record {
+      answer = c.ok_or.ensures.value ∙ (ap (λ o. ok_or o Beyond) c.copied.ensures ∙ sym (element_got c.args.cells.now c.args.n c.get.result c.get.ensures.lookup));
+      kept = refl;
+    }
