@@ -12,7 +12,7 @@ use Rattle.setup.specs.declared.keyword.Keyword.{Keyword}
 use Rattle.setup.specs.declared.problem.LineProblem.TheVariants.{UnknownDirective, ExtraWord}
 
 some_told : (o : Option Keyword) (k : Keyword) → Ok k ≡ ok_or o UnknownDirective → o ≡ Some k
-some_told None k e = absurd (let z : ◌≡◌ {A = ℕ} 0 1 = cc in omega arith)
+some_told None k e = cc
 some_told (Some x) k e = cc
 
 -- a line with the name of a directive in front
@@ -24,7 +24,7 @@ asked_told t w ws k e h f =
 
 -- what stands behind the words of a directive
 pub ended_more : (u x : List ℕ) (ws : List (List ℕ)) (n : ℕ) (d : Directive) (o : Option (Bor (List ℕ))) → words_of u ≡ drop n ws → TakesWord u (option_map (λ w. w.now) o) x → is_some o ≡ true → ended (get_or ws n []) d ≡ Err ExtraWord
-ended_more u x ws n d None e h s = absurd (let z : ◌≡◌ {A = ℕ} 0 1 = cc in omega arith)
+ended_more u x ws n d None e h s = cc
 ended_more u x ws n d (Some w) e h s =
     let g : get_or ws n [] ≡ w.now = sym (get_or-drop n ws 0 [] ∙ ap (λ m. get_or ws m []) (add-zero n)) ∙ ap (λ vs. get_or vs 0 []) (sym e ∙ h.0) in
     ap (λ v. ended v d) g ∙ ap (λ b. cond b (Ok (Some d)) (Err ExtraWord)) (ne_eqb (length w.now) 0 (λ z. omega (arith, h.1)))
@@ -33,4 +33,4 @@ pub ended_last : (u x : List ℕ) (ws : List (List ℕ)) (n : ℕ) (d : Directiv
 ended_last u x ws n d None e h s =
     let g : get_or ws n [] ≡ [] = sym (get_or-drop n ws 0 [] ∙ ap (λ m. get_or ws m []) (add-zero n)) ∙ ap (λ vs. get_or vs 0 []) (sym e ∙ h.0) in
     ap (λ v. ended v d) g
-ended_last u x ws n d (Some w) e h s = absurd (let z : ◌≡◌ {A = ℕ} 0 1 = cc in omega arith)
+ended_last u x ws n d (Some w) e h s = cc

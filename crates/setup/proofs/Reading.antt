@@ -38,5 +38,5 @@ read_more b v u i w p h e s inv =
     capped_same b u (v * b + d) (drop (i + 1) w) p (ap capped s ∙ capped_twice (v * b + d)) ∙ sym z ∙ inv
 
 pub filled : (w : List ℕ) → false ≡ eqb (length w) 0 → 0 < length w
-filled [] e = absurd (let z : ◌≡◌ {A = ℕ} 0 1 = cc in omega arith)
+filled [] e = cc
 filled (c ∷ cs) e = omega arith
