@@ -1,10 +1,15 @@
--- The end of a setup text. Assumes nothing.
-use Rattle.std.proofs.Common.{◌≡◌, ℕ, true, eqb, List, [], ◌∷◌, length, Ok, Result, sym, ap, ◌∙◌, arith}
-use Rattle.std.proofs.lemmas.Bool.{eqb-true}
-use Rattle.setup.specs.Pieces.{lines_of}
-use Rattle.rig.specs.Plans.{Plan, Rig, Place, Trouble, ended, then_at, carried}
+-- How many lines a setup text has. Assumes nothing.
+use Rattle.std.proofs.Common.{ℕ, suc, ◌≤◌, true, false, cond, eqb, List, [], ◌∷◌, length, arith}
+use Rattle.setup.specs.Pieces.{joined, lines_of}
 
--- where no text is left, the setup ends
-pub at_end : (p : Plan) (n : ℕ) (rest : List ℕ) (o : Result Rig Trouble) (whole : Result Rig Place) → true ≡ eqb (length rest) 0 → o ≡ ended p p.kind p.rows → carried p n (lines_of rest) ≡ whole → then_at n o (λ r. Ok r) ≡ whole
-at_end p n [] o whole s e inv = ap (λ x. then_at n x (λ r. Ok r)) e ∙ inv
-at_end p n (c ∷ cs) o whole s e inv = absurd (omega (arith, eqb-true (length (c ∷ cs)) 0 (sym s)))
+joined_count : (c : ℕ) (ls : List (List ℕ)) → length (joined c ls) ≤ suc (length ls)
+joined_count c [] = omega arith
+joined_count c (l ∷ ls) = omega arith
+
+-- no more than it has characters
+pub line_count : (t : List ℕ) → length (lines_of t) ≤ length t
+line_count [] = omega arith
+line_count (c ∷ cs) =
+    let h = line_count cs in
+    let j = joined_count c (lines_of cs) in
+    elim (eqb c 10) as (λ b. length (cond b ([] ∷ lines_of cs) (joined c (lines_of cs))) ≤ suc (length cs)) [ true ↦ omega arith | false ↦ omega arith ]

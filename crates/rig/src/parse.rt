@@ -7,7 +7,7 @@ ghost use Rattle.rig.specs.Views.{plain_of, told_at};
 use crate::draft::Draft;
 use crate::problem::SetupError;
 use crate::whole_setup::Setup;
-use setup::pieces::split_line;
+use setup::pieces::Lines;
 
 // The setup that a text asks for, its lines carried out in their order; or the first problem, with its line.
 pub fn parse(text: &str) -> Result<Setup, SetupError>
@@ -15,19 +15,14 @@ pub fn parse(text: &str) -> Result<Setup, SetupError>
     ensures asked { IfOk result (λ s. Asked text.now (plain_of s)) }
 {
     let mut draft = Draft::new();
-    let mut rest = text.as_bytes();
     let mut line = 0;
-    while !rest.is_empty() {
-        let (first, after) = split_line(rest);
+    for written in Lines(text.as_bytes()) {
         line += 1;
-        draft = match draft.take_line(first) {
-            Ok(draft) => draft,
-            Err(problem) => return Err(SetupError { line, problem }),
-        };
-        rest = after;
+        draft = draft
+            .take_line(written)
+            .map_err(|problem| SetupError { line, problem })?;
     }
-    match draft.finish() {
-        Ok(setup) => Ok(setup),
-        Err(problem) => Err(SetupError { line, problem }),
-    }
+    draft
+        .finish()
+        .map_err(|problem| SetupError { line, problem })
 }

@@ -1,9 +1,11 @@
 ghost use Rattle.std.specs.Prelude.{◌≡◌, Some};
+ghost use Rattle.rig.specs.declared.problem.Problem.TheVariants.{Line, Port, Sheet};
 ghost use Rattle.rig.specs.Texts.{error_text, problem_text, sheet_text};
 
 use port::refusal::PortRefusal;
 use setup::problem::LineProblem;
 use sheet::refusal::Refusal;
+use sheet::sheet::Refused;
 use std::fmt;
 
 // Why a setup is refused.
@@ -25,6 +27,31 @@ pub enum Problem {
     NoKind,
     // The text ends without a `cells`.
     NoCells,
+}
+
+impl From<LineProblem> for Problem {
+    ghost from_gives = { λ reason r. r ≡ Line reason };
+
+    fn from(reason: LineProblem) -> Problem {
+        Problem::Line(reason)
+    }
+}
+
+// The sheet that comes back is dropped.
+impl From<Refused> for Problem {
+    ghost from_gives = { λ refused r. r ≡ Sheet refused.why };
+
+    fn from(refused: Refused) -> Problem {
+        Problem::Sheet(refused.why)
+    }
+}
+
+impl From<PortRefusal> for Problem {
+    ghost from_gives = { λ refusal r. r ≡ Port refusal };
+
+    fn from(refusal: PortRefusal) -> Problem {
+        Problem::Port(refusal)
+    }
 }
 
 // A problem and the line it stands on, counted from 1; the last line where something is missing.

@@ -11,6 +11,7 @@ pub struct Setup {
     pub layers: u8,
     pub sheet: Sheet,
     pub ports: Ports,
-    // What each cell holds at first, packed; two zeros are the null element.
+    // What each cell holds at first, packed; two zeros are the null element. There is room for the largest sheet, since
+    // reading a setup allocates nothing and so cannot fail for want of memory.
     pub elements: [Words; 512],
 }

@@ -22,11 +22,18 @@ then (Ok x) f = f x
 then (Err e) f = Err e
 
 -- the kind of element and the store that a word names
+abbrev pub kind_named : List ℕ → Result ElementKind LineProblem
+kind_named w = cond (bytes_eq w (codes "level")) (Ok Level) (cond (bytes_eq w (codes "head")) (Ok Head) (Err UnknownKind))
+
+abbrev pub store_named : List ℕ → Result Bottom LineProblem
+store_named w = cond (bytes_eq w (codes "flat")) (Ok Flat) (cond (bytes_eq w (codes "packed")) (Ok Packed) (Err UnknownStore))
+
+-- the same where a word is wanted, the empty one being a missing one
 abbrev pub kind_of : List ℕ → Result ElementKind LineProblem
-kind_of w = cond (length w == 0) (Err MissingWord) (cond (bytes_eq w (codes "level")) (Ok Level) (cond (bytes_eq w (codes "head")) (Ok Head) (Err UnknownKind)))
+kind_of w = cond (length w == 0) (Err MissingWord) (kind_named w)
 
 abbrev pub store_of : List ℕ → Result Bottom LineProblem
-store_of w = cond (length w == 0) (Err MissingWord) (cond (bytes_eq w (codes "flat")) (Ok Flat) (cond (bytes_eq w (codes "packed")) (Ok Packed) (Err UnknownStore)))
+store_of w = cond (length w == 0) (Err MissingWord) (store_named w)
 
 -- the words 1 to 3 as numbers, each with its limit
 abbrev pub three_of : ℕ → ℕ → ℕ → List (List ℕ) → Result (ℕ × ℕ × ℕ) LineProblem

@@ -1,5 +1,5 @@
 -- A setup text as lines and words. Assumes nothing.
-use Rattle.std.specs.Prelude.{◌≡◌, ℕ, suc, ◌<◌, Bool, false, cond, not, ◌||◌, List, [], ◌∷◌, length, take, drop, ◌==◌}
+use Rattle.std.specs.Prelude.{◌≡◌, ℕ, suc, ◌<◌, Bool, false, cond, not, ◌||◌, List, [], ◌∷◌, length, take, drop, Some, None, Option, ◌==◌}
 
 -- a space, a tab or a carriage return
 abbrev pub blank : ℕ → Bool
@@ -54,6 +54,11 @@ first_word t = take (letters (trimmed t)) (trimmed t)
 
 abbrev pub after_word : List ℕ → List ℕ
 after_word t = drop (letters (trimmed t)) (trimmed t)
+
+-- the next word w of a text t, and what follows it; no word where none is left, and no word is empty
+abbrev pub TakesWord : List ℕ → Option (List ℕ) → List ℕ → Type 0
+TakesWord t None rest = (words_of t ≡ []) × (words_of rest ≡ [])
+TakesWord t (Some w) rest = (words_of t ≡ w ∷ words_of rest) × (0 < length w)
 
 -- a text cut behind its first line
 pub record FirstLine (text line rest : List ℕ) : Type 0 where

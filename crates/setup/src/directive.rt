@@ -1,3 +1,7 @@
+ghost use Rattle.std.specs.Prelude.{◌≡◌};
+ghost use Rattle.setup.specs.Directives.{kind_named, store_named};
+
+use crate::problem::LineProblem;
 use element::words::Words;
 
 // What a cell holds.
@@ -7,11 +11,41 @@ pub enum ElementKind {
     Head,
 }
 
+// The kind that a word names.
+impl TryFrom<&[u8]> for ElementKind {
+    type Error = LineProblem;
+
+    ghost try_from_gives = { λ word r. r ≡ kind_named word.now };
+
+    fn try_from(word: &[u8]) -> Result<ElementKind, LineProblem> {
+        match word {
+            b"level" => Ok(ElementKind::Level),
+            b"head" => Ok(ElementKind::Head),
+            _ => Err(LineProblem::UnknownKind),
+        }
+    }
+}
+
 // Which store stands at the bottom.
 #[derive(Clone, Copy)]
 pub enum Bottom {
     Flat,
     Packed,
+}
+
+// The store that a word names.
+impl TryFrom<&[u8]> for Bottom {
+    type Error = LineProblem;
+
+    ghost try_from_gives = { λ word r. r ≡ store_named word.now };
+
+    fn try_from(word: &[u8]) -> Result<Bottom, LineProblem> {
+        match word {
+            b"flat" => Ok(Bottom::Flat),
+            b"packed" => Ok(Bottom::Packed),
+            _ => Err(LineProblem::UnknownStore),
+        }
+    }
 }
 
 // What one line of a setup text asks.

@@ -1,7 +1,9 @@
 ghost use Rattle.std.specs.Prelude.{◌≡◌};
-ghost use Rattle.setup.specs.Keywords.{keyword_of, words_wanted};
+ghost use Rattle.std.specs.Option.{ok_or};
+ghost use Rattle.setup.specs.declared.problem.LineProblem.TheVariants.{UnknownDirective};
+ghost use Rattle.setup.specs.Keywords.{keyword_of};
 
-use crate::pieces::is;
+use crate::problem::LineProblem;
 
 // The directives by name.
 #[derive(Clone, Copy)]
@@ -16,45 +18,23 @@ pub(crate) enum Keyword {
     Element,
 }
 
-impl Keyword {
-    // The directive that a word names.
-    pub(crate) fn of(word: &[u8]) -> Option<Keyword>
-        ensures { result ≡ keyword_of word.now }
-    {
-        if is(word, "kind") {
-            return Some(Keyword::Kind);
-        }
-        if is(word, "store") {
-            return Some(Keyword::Store);
-        }
-        if is(word, "layers") {
-            return Some(Keyword::Layers);
-        }
-        if is(word, "cells") {
-            return Some(Keyword::Cells);
-        }
-        if is(word, "grant") {
-            return Some(Keyword::Grant);
-        }
-        if is(word, "swap") {
-            return Some(Keyword::Swap);
-        }
-        if is(word, "port") {
-            return Some(Keyword::Port);
-        }
-        if is(word, "element") {
-            return Some(Keyword::Element);
-        }
-        None
-    }
+// The directive that a word names.
+impl TryFrom<&[u8]> for Keyword {
+    type Error = LineProblem;
 
-    // How many words a line of this directive has.
-    pub(crate) fn words(self) -> usize
-        ensures { result ≡ words_wanted self }
-    {
-        match self {
-            Keyword::Grant | Keyword::Port | Keyword::Element => 4,
-            _ => 2,
+    ghost try_from_gives = { λ word r. r ≡ ok_or (keyword_of word.now) UnknownDirective };
+
+    fn try_from(word: &[u8]) -> Result<Keyword, LineProblem> {
+        match word {
+            b"kind" => Ok(Keyword::Kind),
+            b"store" => Ok(Keyword::Store),
+            b"layers" => Ok(Keyword::Layers),
+            b"cells" => Ok(Keyword::Cells),
+            b"grant" => Ok(Keyword::Grant),
+            b"swap" => Ok(Keyword::Swap),
+            b"port" => Ok(Keyword::Port),
+            b"element" => Ok(Keyword::Element),
+            _ => Err(LineProblem::UnknownDirective),
         }
     }
 }

@@ -1,25 +1,21 @@
-use Rattle.std.proofs.Common.{◌≡◌, ◌+◌, ◌-◌, length, take, drop, sym, refl, ◌∙◌, arith}
-use native.Mathlib.Nat.{sub-zero}
-use Rattle.std.proofs.lemmas.List.{take_rest, length-drop, nil_from_length}
-use Rattle.setup.proofs.Fronts.{cut_line, cut_last}
+use Rattle.std.proofs.Common.{◌+◌, not, eqb, length, sym, ap, ◌∙◌, rules, tests, arith}
+use Rattle.std.specs.Option.{unwrap_or}
+use Rattle.std.proofs.lemmas.List.{take_rest}
+use Rattle.std.proofs.lemmas.Iterator.{YieldsList-from_slice}
+use Rattle.std.proofs.lemmas.Iterator.Search.{position_from_yields_List}
+use Rattle.setup.proofs.Fronts.{front_found, cut_line, cut_last}
 use Rattle.setup.proofs.pieces.split_line.Goals as goal
 
-pub returns-then-end-text : goal.returns-then-end-text
-returns-then-end-text c =
+pub returns-in-Some : goal.returns-in-Some
+returns-in-Some c =
     let t = c.args.text.now in
-    record {
-      split = λ h. cut_last t (sym c.if-end-text.true ∙ c.find-end.ensures.value) h;
-      less = λ h. h;
-      none = λ e. (nil_from_length t e, refl);
-    }
+    let p = front_found (λ x. not (eqb x 10)) t c.position.result
+    (position_from_yields_List (λ x. not (not (eqb x 10))) _ _ c.position.result c.position.ensures.ran (YieldsList-from_slice t c.iter.ensures.rest) (λ x b q k. search (rules, tests))) in
+    rw (take_rest t (c.in-Some.end + 1)) (cut_line t c.in-Some.end (ap (λ o. unwrap_or o (length t)) (sym c.in-Some.is) ∙ p) (omega (arith, c.in-Some.ensures.bound)))
 
-pub returns : goal.returns
-returns c =
+pub returns-in-None : goal.returns-in-None
+returns-in-None c =
     let t = c.args.text.now in
-    let n = c.find-end.result in
-    let e : take (length t - (n + 1)) (drop (n + 1) t) ≡ drop (n + 1) t = take_rest t (n + 1) in
-    record {
-      split = λ h. rw (e, sub-zero) (cut_line t n c.find-end.ensures.value h);
-      less = λ h. rw e (simp length-drop (omega arith));
-      none = λ z. absurd (omega (arith, c.if-end-text.false, c.find-end.ensures.within));
-    }
+    let p = front_found (λ x. not (eqb x 10)) t c.position.result
+    (position_from_yields_List (λ x. not (not (eqb x 10))) _ _ c.position.result c.position.ensures.ran (YieldsList-from_slice t c.iter.ensures.rest) (λ x b q k. search (rules, tests))) in
+    cut_last t (ap (λ o. unwrap_or o (length t)) (sym c.in-None.is) ∙ p)
