@@ -3,9 +3,8 @@ use Rattle.std.specs.Prelude.{◌≡◌, ℕ, Some, None, Option}
 use Rattle.element.specs.declared.element.Element.{Ghosts as Elements}
 use Rattle.instruction.specs.declared.set.InstructionSet.{Ghosts as Sets}
 use Rattle.store.specs.declared.store.Store.{Ghosts as Stores}
-use Rattle.command.specs.declared.log.Answer.{Answer}
 use Rattle.command.specs.declared.refusal.Refusal.{Refusal}
-use Rattle.command.specs.Answers.{refusal_number, refusal_detail}
+use Rattle.command.specs.Answers.{Answer, refusal_number, refusal_detail}
 use Rattle.reply.specs.Told.{told}
 use Rattle.isolation.specs.Making.{Making}
 use Rattle.isolation.specs.Request.{Step}

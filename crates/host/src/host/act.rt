@@ -81,7 +81,7 @@ impl<S: Store, I: InstructionSet<S::Item>> Host<S, I> {
         let row = self.rows[part as usize];
         swap_in(&mut self.store, self.sheet.swaps(), row);
         self.turn = Some(part);
-        Answer::Granted
+        Ok(None)
     }
 
     // The part's row takes the swapped cells, and the turn is nobody's.
@@ -93,7 +93,7 @@ impl<S: Store, I: InstructionSet<S::Item>> Host<S, I> {
         let row = swap_out(&mut self.store, self.sheet.swaps());
         keep(&mut self.rows, part, row);
         self.turn = None;
-        Answer::Granted
+        Ok(None)
     }
 
     // The set is given the code and the arguments' elements; what it gives goes to the result cells.
@@ -115,7 +115,7 @@ impl<S: Store, I: InstructionSet<S::Item>> Host<S, I> {
     {
         let n = gather(&mut self.store, xs, args);
         match apply(&mut self.set, code, &args[0..n], results) {
-            Err(fault) => Answer::Refused(Refusal::Set(fault.number())),
+            Err(fault) => Err(Refusal::Set(fault.number())),
             Ok(many) => {
                 scatter(&mut self.store, rs, &results[0..many]);
                 values(0, &results[0..many])
@@ -195,9 +195,9 @@ impl<S: Store, I: InstructionSet<S::Item>> Host<S, I> {
     {
         let part = bytes[2];
         match decode(bytes) {
-            Err(why) => Answer::Refused(Refusal::Malformed(why)),
+            Err(why) => Err(Refusal::Malformed(why)),
             Ok(command) => match self.verdict(part, command) {
-                Some(why) => Answer::Refused(why),
+                Some(why) => Err(why),
                 None => self.perform(part, command, args, results),
             },
         }

@@ -53,10 +53,10 @@ impl<S: Store, I: InstructionSet<S::Item>> Host<S, I> {
         ensures lender { S.Store.lender self.new.store ≡ S.Store.lender self.old.store }
     {
         if bytes.len() != 32 {
-            return Answer::Refused(Refusal::Malformed(Malformed::Length));
+            return Err(Refusal::Malformed(Malformed::Length));
         }
         if self.store.len() != self.sheet.size() {
-            return Answer::Refused(Refusal::Size);
+            return Err(Refusal::Size);
         }
         self.answer_record(bytes, args, results)
     }
@@ -75,7 +75,7 @@ impl<S: Store, I: InstructionSet<S::Item>> Host<S, I> {
         ensures lender { S.Store.lender self.new.store ≡ S.Store.lender self.old.store }
     {
         if args.len() < 8 || results.len() < 4 {
-            *log = logged(place, bytes, Answer::Refused(short_of(bytes)));
+            *log = logged(place, bytes, Err(short_of(bytes)));
             return;
         }
         let answer = self.answer(place, bytes, args, results);
@@ -96,7 +96,7 @@ impl<S: Store, I: InstructionSet<S::Item>> Host<S, I> {
         ensures cleared { Cleared S.Item.Element.blank (request_of place bytes.now args.old results.old) args.old args.new results.old results.new }
         ensures lender { S.Store.lender self.new.store ≡ S.Store.lender self.old.store }
     {
-        let mut log = LogRecord::new(place, 0, 0, Answer::Granted);
+        let mut log = LogRecord::new(place, 0, 0, Ok(None));
         self.command_into(place, bytes, args, results, &mut log);
         log
     }
