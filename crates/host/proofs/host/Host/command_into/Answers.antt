@@ -53,11 +53,12 @@ returns g c =
     let z = g.S.Item.Element.blank in
     let r : roomy q ≡ true = rooms q c.if-args-lt8.false c.if-results-lt4.false in
     let la : length c.answer-answer.new.args ≡ length c.args.args.now = omega arith in
+    let does = c.answer-answer.ensures.does q refl r in
     let lr : length c.answer-answer.new.results ≡ length c.args.results.now = omega arith in
     record {
       commanded = commanded g.S.Store g.S.Item.Element g.I.InstructionSet h c.answer-answer.new.self q c.logged-2.result
-          (λ m. c.logged-2.ensures ∙ ap (logs q) (c.answer-answer.ensures.does.answer m))
-          c.answer-answer.ensures.does.state c.answer-answer.ensures.does.making c.answer-answer.ensures.does.fits;
+          (λ m. c.logged-2.ensures ∙ ap (logs q) (does.answer m))
+          does.state does.making does.fits;
       cleared = record {
         args = nulls (roomy q) z c.args.args.now c.clear.new.places r (c.clear.ensures ∙ ap (λ (n : ℕ). replicate n z) la);
         results = nulls (roomy q) z c.args.results.now c.clear-2.new.places r (c.clear-2.ensures ∙ ap (λ (n : ℕ). replicate n z) lr);
