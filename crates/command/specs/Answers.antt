@@ -1,10 +1,9 @@
 -- What the cases of an answer stand for in a log record. Assumes nothing.
-use Rattle.std.specs.Prelude.{ℕ, List, replicate}
+use Rattle.std.specs.Prelude.{ℕ, List, Some, None, Option, Ok, Err, Result, replicate}
 use Rattle.command.specs.Commands.{number_of, detail_of}
 use Rattle.command.specs.declared.refusal.Refusal.{Refusal}
 use Rattle.command.specs.declared.refusal.Refusal.TheVariants.{Malformed, Scratch, Size, Part, Turn, Port, Cell, Set}
-use Rattle.command.specs.declared.log.Answer.{Answer}
-use Rattle.command.specs.declared.log.Answer.TheVariants.{Granted, Values, Refused}
+use Rattle.command.specs.declared.log.Values.{Values}
 use Rattle.command.specs.declared.log.LogRecord.{LogRecord}
 
 abbrev pub refusal_number : Refusal → ℕ
@@ -27,31 +26,33 @@ refusal_detail Port = 5
 refusal_detail (Cell at) = at
 refusal_detail (Set fault) = fault
 
+-- a restore or a save is done and gives nothing, work is done and gave values, or a refusal
+abbrev pub Answer : Type 0
+Answer = Result (Option Values) Refusal
+
 -- the number, detail, missed count, count of values and words that an answer stands for
 abbrev pub number : Answer → ℕ
-number Granted = 0
-number (Values m n ws) = 0
-number (Refused why) = refusal_number why
+number (Ok gave) = 0
+number (Err why) = refusal_number why
 
 abbrev pub detail : Answer → ℕ
-detail Granted = 0
-detail (Values m n ws) = 0
-detail (Refused why) = refusal_detail why
+detail (Ok gave) = 0
+detail (Err why) = refusal_detail why
 
 abbrev pub missed : Answer → ℕ
-missed Granted = 0
-missed (Values m n ws) = m
-missed (Refused why) = 0
+missed (Ok None) = 0
+missed (Ok (Some v)) = v.missed
+missed (Err why) = 0
 
 abbrev pub count : Answer → ℕ
-count Granted = 0
-count (Values m n ws) = n
-count (Refused why) = 0
+count (Ok None) = 0
+count (Ok (Some v)) = v.count
+count (Err why) = 0
 
 abbrev pub words : Answer → List ℕ
-words Granted = replicate 8 0
-words (Values m n ws) = ws
-words (Refused why) = replicate 8 0
+words (Ok None) = replicate 8 0
+words (Ok (Some v)) = v.words
+words (Err why) = replicate 8 0
 
 abbrev pub logged : ℕ → ℕ → ℕ → Answer → LogRecord
 logged place part kind a = record {

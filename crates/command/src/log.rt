@@ -3,19 +3,16 @@ ghost use Rattle.command.specs.Answers.{logged};
 
 use crate::refusal::Refusal;
 
-// What a command is answered.
+// The values that work gave: how many, and their packed words, unused ones zero; before them a queue missed so many.
 #[derive(Clone, Copy)]
-pub enum Answer {
-    // A restore or a save is done.
-    Granted,
-    // Work is done and gave values: how many, and their packed words, unused ones zero.
-    Values {
-        missed: u8,
-        count: u8,
-        words: [u32; 8],
-    },
-    Refused(Refusal),
+pub struct Values {
+    pub missed: u8,
+    pub count: u8,
+    pub words: [u32; 8],
 }
+
+// What a command is answered: a restore or a save is done and gives nothing, work is done and gave values, or a refusal.
+pub type Answer = Result<Option<Values>, Refusal>;
 
 // One record of the log: what was asked, and the answer.
 #[repr(C)]
@@ -47,18 +44,17 @@ impl LogRecord {
             words: [0; 8],
         };
         match answer {
-            Answer::Granted => blank,
-            Answer::Values {
-                missed,
-                count,
-                words,
-            } => LogRecord {
-                missed,
-                count,
-                words,
-                ..blank
-            },
-            Answer::Refused(why) => LogRecord {
+            Ok(None) => blank,
+            Ok(Some(values)) => {
+                let words = values.words;
+                LogRecord {
+                    missed: values.missed,
+                    count: values.count,
+                    words,
+                    ..blank
+                }
+            }
+            Err(why) => LogRecord {
                 refusal: why.number(),
                 detail: why.detail(),
                 ..blank

@@ -1,5 +1,9 @@
 -- What the code makes of lists is what the machine makes of its tables. Assumes nothing.
-use Rattle.std.proofs.Common.{◌≡◌, ℕ, ◌-◌, ◌<◌, ◌≤◌, min, Bool, true, false, cond, ◌&&◌, eqb, ltb, List, [], ◌∷◌, ◌++◌, map, length, get_or, take, drop, set, refl, ap, ◌∙◌, subst, ap₂, arith, length-set, length-take}
+use Rattle.std.proofs.Common.{◌≡◌, ℕ, ◌-◌, ◌<◌, ◌≤◌, min, Bool, true, false, cond, ◌&&◌, eqb, ltb, List, [], ◌∷◌, ◌++◌, map, length, get_or, take, drop, set, Some, None, Option, Ok, Err, Result, refl, ap, ◌∙◌, subst, ap₂, arith, length-set, length-take}
+use Rattle.std.specs.Result.{MatchResult, IsErrAnd}
+use Rattle.std.specs.Option.{IfSome, ok_or}
+use Rattle.part.specs.declared.set.Part.{Part}
+use Rattle.command.specs.declared.refusal.Refusal.{Refusal}
 use mathlib.Core.Path.{fun_ext}
 use lib.ListN.{length-map}
 use lib.Seq.{take-append_seam}
@@ -81,3 +85,13 @@ pub sent_all : {E : Type 0} (x : ℕ) (vs : List E) (o : ℕ → Queue E) → x 
 sent_all x vs o l h = fun_ext (λ y.
     ap (λ (b : Bool). cond (b && eqb y x) (appended (take 4 vs) (o y)) (o y)) (lt-ltb x 16 l)
     ∙ ap (λ (ws : List _). cond (eqb y x) (appended ws (o y)) (o y)) (take_all 4 vs h))
+
+-- what a call gave, where its fault was told in other words
+pub was_ok : {T D F : Type 0} (P : D → F → Type 0) (r : Result T D) (r' : Result T F) (x : T) → MatchResult r (λ (y : T). r' ≡ Ok y) (λ (e : D). IsErrAnd r' (P e)) → r' ≡ Ok x → r ≡ Ok x
+was_ok P (Ok y) r' x h w = let e : y ≡ x = cc in ap Ok e
+was_ok P (Err e) r' x h w = absurd (subst (λ (t : Result _ _). IsErrAnd t (P e)) w h)
+
+-- the part that a number is
+pub part_is : (o : Option Part) (p : Part) (why : Refusal) (n : ℕ) → Ok p ≡ ok_or o why → IfSome o (λ (q : Part). q.number ≡ n) → p.number ≡ n
+part_is None p why n e h = cc
+part_is (Some q) p why n e h = let same : p ≡ q = cc in ap (λ (x : Part). x.number) same ∙ h

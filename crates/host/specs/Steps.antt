@@ -1,11 +1,10 @@
 -- A step of the machine that the code takes. Assumes nothing.
-use Rattle.std.specs.Prelude.{◌≡◌, ℕ, Some, None, Option}
+use Rattle.std.specs.Prelude.{◌≡◌, ℕ, Ok, Err, Result}
 use Rattle.element.specs.declared.element.Element.{Ghosts as Elements}
 use Rattle.instruction.specs.declared.set.InstructionSet.{Ghosts as Sets}
 use Rattle.store.specs.declared.store.Store.{Ghosts as Stores}
-use Rattle.command.specs.declared.log.Answer.{Answer}
 use Rattle.command.specs.declared.refusal.Refusal.{Refusal}
-use Rattle.command.specs.Answers.{refusal_number, refusal_detail}
+use Rattle.command.specs.Answers.{Answer, refusal_number, refusal_detail}
 use Rattle.reply.specs.Told.{told}
 use Rattle.isolation.specs.Making.{Making}
 use Rattle.isolation.specs.Request.{Step}
@@ -22,11 +21,15 @@ pub record Does {S I E : Type 0} (st : Stores S E) (el : Elements E) (is : Sets 
   pub fits : fits_of st el y ≡ fits_of st el x
   pub answer : (m : ℕ → E) → told r ≡ told_of el.packed (t (making_of el is x m) (state_of st el x)).answer
 
-abbrev pub verdict_of : Option Refusal → Verdict
-verdict_of None = pass
-verdict_of (Some r) = fail (refusal_number r) (refusal_detail r)
+-- what a check answered: go on, or a refusal
+abbrev pub Checked : Type 0
+Checked = Result (Unit {0}) Refusal
+
+abbrev pub verdict_of : Checked → Verdict
+verdict_of (Ok u) = pass
+verdict_of (Err r) = fail (refusal_number r) (refusal_detail r)
 
 -- a verdict that goes on with another
-abbrev pub then : Option Refusal → Verdict → Verdict
-then None v = v
-then (Some r) v = fail (refusal_number r) (refusal_detail r)
+abbrev pub then : Checked → Verdict → Verdict
+then (Ok u) v = v
+then (Err r) v = fail (refusal_number r) (refusal_detail r)

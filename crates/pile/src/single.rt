@@ -2,7 +2,7 @@ ghost use Rattle.std.specs.Prelude.{◌≡◌};
 ghost use Rattle.host.specs.Parts.{request_of};
 ghost use Rattle.pile.specs.Going.{Did};
 
-use command::log::{Answer, LogRecord};
+use command::log::LogRecord;
 use element::element::Element;
 use host::host::{Host, Kept};
 use instruction::set::InstructionSet;
@@ -39,7 +39,7 @@ pub fn command_kept<S: Store, I: InstructionSet<S::Item> + Drop>(
 ) -> LogRecord
     ensures { Did S.Store S.Item.Element I.InstructionSet kept.old kept.new store.old store.new set (request_of place bytes.now args.old results.old) args.old args.new results.old results.new result }
 {
-    let mut told = LogRecord::new(place, 0, 0, Answer::Granted);
+    let mut told = LogRecord::new(place, 0, 0, Ok(None));
     let _store = command_bare(store, set, kept, place, bytes, args, results, &mut told);
     told
 }

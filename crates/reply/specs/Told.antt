@@ -2,8 +2,7 @@
 use Rattle.std.specs.Prelude.{ℕ, min, List, [], ◌∷◌, map, length, slice_index_or}
 use Rattle.element.specs.Pairs.{pair}
 use Rattle.element.specs.declared.words.Words.{Words}
-use Rattle.command.specs.declared.log.Answer.{Answer}
-use Rattle.command.specs.Answers.{number, detail, missed, count, words}
+use Rattle.command.specs.Answers.{Answer, number, detail, missed, count, words}
 
 -- what is told beside place, part and kind
 pub record Told : Type 0 where

@@ -1,4 +1,4 @@
-use command::log::{Answer, LogRecord};
+use command::log::{Answer, LogRecord, Values};
 use command::malformed::Malformed;
 use command::refusal::Refusal;
 use element::head::Head;
@@ -27,12 +27,12 @@ fn row(rt: &impl Abort, heap: Global, kind: u8, answer: Answer, told: &str) -> R
 #[test]
 fn levels(rt: HostRuntime) -> Result<(), Fail> {
     let heap = rt.alloc();
-    row(&rt, heap, 1, Answer::Granted, "   12     3  restore   done")?;
-    let values = Answer::Values {
+    row(&rt, heap, 1, Ok(None), "   12     3  restore   done")?;
+    let values = Ok(Some(Values {
         missed: 1,
         count: 2,
         words: [64, 0, 255, 0, 0, 0, 0, 0],
-    };
+    }));
     row(
         &rt,
         heap,
@@ -44,25 +44,25 @@ fn levels(rt: HostRuntime) -> Result<(), Fail> {
         &rt,
         heap,
         3,
-        Answer::Refused(Refusal::Cell(9)),
+        Err(Refusal::Cell(9)),
         "   12     3  instruct  refusal 12: no right to the cell (result 1)",
     )?;
     row(
         &rt,
         heap,
         9,
-        Answer::Refused(Refusal::Malformed(Malformed::Kind)),
+        Err(Refusal::Malformed(Malformed::Kind)),
         "   12     3  ?         refusal 7: no such kind (byte 3)",
     )
 }
 
 #[test]
 fn heads(rt: HostRuntime) -> Result<(), Fail> {
-    let answer = Answer::Values {
+    let answer = Ok(Some(Values {
         missed: 0,
         count: 1,
         words: [0x00020003, 0x01000005, 0, 0, 0, 0, 0, 0],
-    };
+    }));
     let record = LogRecord::new(1, 0, 4, answer);
     let row = Row::<Head> {
         logged: &record,
@@ -75,11 +75,11 @@ fn heads(rt: HostRuntime) -> Result<(), Fail> {
 
 #[test]
 fn bytes(rt: HostRuntime) -> Result<(), Fail> {
-    let answer = Answer::Values {
+    let answer = Ok(Some(Values {
         missed: 7,
         count: 1,
         words: [0x04030201, 0, 0, 0, 0, 0, 0, 0x0d0c0b0a],
-    };
+    }));
     let record = LogRecord::new(0x0107, 2, 5, answer);
     let mut out = Vec::new(rt.alloc());
     add_record(&mut out, &record)?;
@@ -104,8 +104,8 @@ fn left(rt: HostRuntime) {
 
 #[test]
 fn counts(rt: HostRuntime) {
-    let done = LogRecord::new(1, 0, 1, Answer::Granted);
-    let not = LogRecord::new(2, 0, 1, Answer::Refused(Refusal::Turn));
+    let done = LogRecord::new(1, 0, 1, Ok(None));
+    let not = LogRecord::new(2, 0, 1, Err(Refusal::Turn));
     assert_eq!(rt; refused(&[done, not, not]), 2);
     assert!(rt; same(&not, &not));
     assert!(rt; !same(&done, &not));

@@ -5,7 +5,7 @@
 mod tests {
     use command::command::Command;
     use command::decode::decode;
-    use command::log::{Answer, LogRecord};
+    use command::log::LogRecord;
     use command::malformed::Malformed;
     use command::refusal::Refusal;
     use showfile::file::ShowFile;
@@ -124,7 +124,7 @@ mod tests {
 
     #[test]
     fn refused_record(rt: HostRuntime) {
-        let told = LogRecord::new(7, 2, 3, Answer::Refused(Refusal::Cell(8)));
+        let told = LogRecord::new(7, 2, 3, Err(Refusal::Cell(8)));
         assert_eq!(rt;
             told,
             LogRecord {

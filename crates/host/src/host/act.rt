@@ -9,7 +9,7 @@ ghost use Rattle.host.specs.Hosted.{making_of, fits_of};
 ghost use Rattle.host.specs.Steps.{Does, verdict_of};
 
 use super::Host;
-use crate::rights::{first_without, is_open, turn_then_port, without_turn};
+use crate::rights::{first_without, turn_then_port, without_turn};
 use crate::rows::keep;
 use command::command::Command;
 use command::decode::decode;
@@ -18,27 +18,24 @@ use command::refusal::Refusal;
 use element::element::Element;
 use instruction::apply::apply;
 use instruction::set::InstructionSet;
-use part::set::PARTS;
+use part::set::Part;
 use reply::values::values;
 use store::store::Store;
 use transfer::row::swap::{swap_in, swap_out};
 use transfer::transfer::{gather, scatter};
 
 impl<S: Store, I: InstructionSet<S::Item>> Host<S, I> {
-    // Refusals 9 to 12, in their order.
-    fn verdict(&self, part: u8, command: Command) -> Option<Refusal>
+    // Refusals 10 to 12, in their order.
+    fn verdict(&self, part: Part, command: Command) -> Result<(), Refusal>
         requires { Few command }
-        ensures { (m : ℕ → S.Item) → verdict_of result ≡ check (making_of S.Item.Element I.InstructionSet self.now m) (is_open (turn_of self.now.turn)) (held_by (turn_of self.now.turn) part) part (order_of command.entry) }
+        ensures { (m : ℕ → S.Item) → verdict_of result ≡ check (making_of S.Item.Element I.InstructionSet self.now m) (is_open (turn_of self.now.turn)) (held_by (turn_of self.now.turn) part.number) part.number (order_of command.entry) }
     {
-        if part >= PARTS {
-            return Some(Refusal::Part);
-        }
         match command {
             Command::Restore => {
-                if is_open(self.turn) {
-                    return Some(Refusal::Turn);
+                if self.turn.is_some() {
+                    return Err(Refusal::Turn);
                 }
-                None
+                Ok(())
             }
             Command::Save => without_turn(self.turn, part),
             Command::Instruct {
@@ -46,60 +43,50 @@ impl<S: Store, I: InstructionSet<S::Item>> Host<S, I> {
                 args,
                 results,
             } => {
-                if let Some(why) = without_turn(self.turn, part) {
-                    return Some(why);
-                }
-                if let Some(why) = first_without(&self.sheet, part, args, false, 0) {
-                    return Some(why);
-                }
+                without_turn(self.turn, part)?;
+                first_without(&self.sheet, part, args, false, 0)?;
                 first_without(&self.sheet, part, results, true, 8)
             }
             Command::Send { port, args } => {
-                let right = self.ports.may_send(port, part);
-                if let Some(why) = turn_then_port(self.turn, part, right) {
-                    return Some(why);
-                }
+                let right = self.ports.may_send(port, part.number);
+                turn_then_port(self.turn, part, right)?;
                 first_without(&self.sheet, part, args, false, 0)
             }
             Command::Receive { port, results } => {
-                let right = self.ports.may_receive(port, part);
-                if let Some(why) = turn_then_port(self.turn, part, right) {
-                    return Some(why);
-                }
+                let right = self.ports.may_receive(port, part.number);
+                turn_then_port(self.turn, part, right)?;
                 first_without(&self.sheet, part, results, true, 8)
             }
         }
     }
 
     // The swapped cells take the part's row, and the turn is the part's.
-    fn restore(&mut self, part: u8) -> Answer
-        requires part { part < 8 }
+    fn restore(&mut self, part: Part) -> Answer
         requires fits { fits_of S.Store S.Item.Element self.old ≡ true }
-        ensures does { Does S.Store S.Item.Element I.InstructionSet self.old self.new (λ k s. act k pass part order.restore s) result }
+        ensures does { Does S.Store S.Item.Element I.InstructionSet self.old self.new (λ k s. act k pass part.number order.restore s) result }
         ensures lender { S.Store.lender self.new.store ≡ S.Store.lender self.old.store }
     {
-        let row = self.rows[part as usize];
+        let row = self.rows[part.number as usize];
         swap_in(&mut self.store, self.sheet.swaps(), row);
-        self.turn = Some(part);
-        Answer::Granted
+        self.turn = Some(part.number);
+        Ok(None)
     }
 
     // The part's row takes the swapped cells, and the turn is nobody's.
-    fn save(&mut self, part: u8) -> Answer
-        requires part { part < 8 }
-        ensures does { Does S.Store S.Item.Element I.InstructionSet self.old self.new (λ k s. act k pass part order.save s) result }
+    fn save(&mut self, part: Part) -> Answer
+        ensures does { Does S.Store S.Item.Element I.InstructionSet self.old self.new (λ k s. act k pass part.number order.save s) result }
         ensures lender { S.Store.lender self.new.store ≡ S.Store.lender self.old.store }
     {
         let row = swap_out(&mut self.store, self.sheet.swaps());
         keep(&mut self.rows, part, row);
         self.turn = None;
-        Answer::Granted
+        Ok(None)
     }
 
     // The set is given the code and the arguments' elements; what it gives goes to the result cells.
     fn instruct(
         &mut self,
-        part: u8,
+        part: Part,
         code: u8,
         xs: &[u8],
         rs: &[u8],
@@ -110,25 +97,23 @@ impl<S: Store, I: InstructionSet<S::Item>> Host<S, I> {
         requires room { 4 ≤ length results.old }
         requires fits { fits_of S.Store S.Item.Element self.old ≡ true }
         requires within { Within self.old.sheet.size (cell_list rs.now) }
-        ensures does { Does S.Store S.Item.Element I.InstructionSet self.old self.new (λ k s. act k pass part (order.work (order.instruct code (cell_list xs.now) (cell_list rs.now))) s) result }
+        ensures does { Does S.Store S.Item.Element I.InstructionSet self.old self.new (λ k s. act k pass part.number (order.work (order.instruct code (cell_list xs.now) (cell_list rs.now))) s) result }
         ensures lender { S.Store.lender self.new.store ≡ S.Store.lender self.old.store }
     {
         let n = gather(&mut self.store, xs, args);
-        match apply(&mut self.set, code, &args[0..n], results) {
-            Err(fault) => Answer::Refused(Refusal::Set(fault.number())),
-            Ok(many) => {
-                scatter(&mut self.store, rs, &results[0..many]);
-                values(0, &results[0..many])
-            }
-        }
+        let many = apply(&mut self.set, code, &args[0..n], results).map_err(|fault| Refusal::Set(
+            fault.number(),
+        ))?;
+        scatter(&mut self.store, rs, &results[0..many]);
+        values(0, &results[0..many])
     }
 
     // The arguments' elements go to the port as one message.
-    fn send(&mut self, part: u8, port: u8, xs: &[u8], args: &mut [S::Item]) -> Answer
+    fn send(&mut self, part: Part, port: u8, xs: &[u8], args: &mut [S::Item]) -> Answer
         requires few { length (cell_list xs.now) ≤ 4 }
         requires room { 4 ≤ length args.old }
         requires port { port < 16 }
-        ensures does { Does S.Store S.Item.Element I.InstructionSet self.old self.new (λ k s. act k pass part (order.work (order.send port (cell_list xs.now))) s) result }
+        ensures does { Does S.Store S.Item.Element I.InstructionSet self.old self.new (λ k s. act k pass part.number (order.work (order.send port (cell_list xs.now))) s) result }
         ensures lender { S.Store.lender self.new.store ≡ S.Store.lender self.old.store }
     {
         let n = gather(&mut self.store, xs, args);
@@ -137,11 +122,11 @@ impl<S: Store, I: InstructionSet<S::Item>> Host<S, I> {
     }
 
     // The port's first message goes to the result cells.
-    fn receive(&mut self, part: u8, port: u8, rs: &[u8], results: &mut [S::Item]) -> Answer
+    fn receive(&mut self, part: Part, port: u8, rs: &[u8], results: &mut [S::Item]) -> Answer
         requires room { 4 ≤ length results.old }
         requires fits { fits_of S.Store S.Item.Element self.old ≡ true }
         requires within { Within self.old.sheet.size (cell_list rs.now) }
-        ensures does { Does S.Store S.Item.Element I.InstructionSet self.old self.new (λ k s. act k pass part (order.work (order.receive port (cell_list rs.now))) s) result }
+        ensures does { Does S.Store S.Item.Element I.InstructionSet self.old self.new (λ k s. act k pass part.number (order.work (order.receive port (cell_list rs.now))) s) result }
         ensures lender { S.Store.lender self.new.store ≡ S.Store.lender self.old.store }
     {
         let taken = self.queues.receive(port, results);
@@ -153,7 +138,7 @@ impl<S: Store, I: InstructionSet<S::Item>> Host<S, I> {
     // What a command that passed the checks does.
     fn perform(
         &mut self,
-        part: u8,
+        part: Part,
         command: Command,
         args: &mut [S::Item],
         results: &mut [S::Item],
@@ -162,8 +147,8 @@ impl<S: Store, I: InstructionSet<S::Item>> Host<S, I> {
         requires args { 8 ≤ length args.old }
         requires results { 4 ≤ length results.old }
         requires fits { fits_of S.Store S.Item.Element self.old ≡ true }
-        requires passed { (m : ℕ → S.Item) → check (making_of S.Item.Element I.InstructionSet self.old m) (is_open (turn_of self.old.turn)) (held_by (turn_of self.old.turn) part) part (order_of command) ≡ pass }
-        ensures does { Does S.Store S.Item.Element I.InstructionSet self.old self.new (λ k s. act k pass part (order_of command.entry) s) result }
+        requires passed { (m : ℕ → S.Item) → check (making_of S.Item.Element I.InstructionSet self.old m) (is_open (turn_of self.old.turn)) (held_by (turn_of self.old.turn) part.number) part.number (order_of command) ≡ pass }
+        ensures does { Does S.Store S.Item.Element I.InstructionSet self.old self.new (λ k s. act k pass part.number (order_of command.entry) s) result }
         ensures lender { S.Store.lender self.new.store ≡ S.Store.lender self.old.store }
     {
         match command {
@@ -182,24 +167,19 @@ impl<S: Store, I: InstructionSet<S::Item>> Host<S, I> {
     // The answer to a whole record, with scratch enough and store and sheet of one size.
     pub(super) fn answer_record(
         &mut self,
-        bytes: &[u8],
+        bytes: &[u8; 32],
         args: &mut [S::Item],
         results: &mut [S::Item],
     ) -> Answer
-        requires whole { length bytes.now ≡ 32 }
         requires args { 8 ≤ length args.old }
         requires results { 4 ≤ length results.old }
         requires fits { fits_of S.Store S.Item.Element self.old ≡ true }
         ensures does { Does S.Store S.Item.Element I.InstructionSet self.old self.new (λ k s. record_step k bytes.now s) result }
         ensures lender { S.Store.lender self.new.store ≡ S.Store.lender self.old.store }
     {
-        let part = bytes[2];
-        match decode(bytes) {
-            Err(why) => Answer::Refused(Refusal::Malformed(why)),
-            Ok(command) => match self.verdict(part, command) {
-                Some(why) => Answer::Refused(why),
-                None => self.perform(part, command, args, results),
-            },
-        }
+        let command = decode(bytes).map_err(Refusal::Malformed)?;
+        let part = Part::new(bytes[2]).ok_or(Refusal::Part)?;
+        self.verdict(part, command)?;
+        self.perform(part, command, args, results)
     }
 }

@@ -1,7 +1,8 @@
-ghost use Rattle.std.specs.Prelude.{◌≡◌, ℕ, ◌≤◌, length, if◌then◌else◌, nat_eq, slice_index};
+ghost use Rattle.std.specs.Prelude.{◌≡◌, ◌≤◌, true, length, if◌then◌else◌, nat_eq, slice_index};
 ghost use Rattle.command.specs.declared.malformed.Malformed.TheVariants as malformed;
 ghost use Rattle.command.specs.declared.refusal.Refusal.TheVariants as refusal;
 ghost use Rattle.reply.specs.Told.{told};
+ghost use Rattle.isolation.specs.Request.{Request, roomy};
 ghost use Rattle.isolation.specs.Machine.{host_step};
 ghost use Rattle.host.specs.Parts.{request_of};
 ghost use Rattle.host.specs.Logged.{record_with};
@@ -39,24 +40,18 @@ fn short_of(bytes: &[u8]) -> Refusal
 }
 
 impl<S: Store, I: InstructionSet<S::Item>> Host<S, I> {
-    // The answer, with scratch enough.
-    fn answer(
-        &mut self,
-        place: u32,
-        bytes: &[u8],
-        args: &mut [S::Item],
-        results: &mut [S::Item],
-    ) -> Answer
+    // The answer, with scratch enough; whatever else the request is.
+    fn answer(&mut self, bytes: &[u8], args: &mut [S::Item], results: &mut [S::Item]) -> Answer
         requires args { 8 ≤ length args.old }
         requires results { 4 ≤ length results.old }
-        ensures does { Does S.Store S.Item.Element I.InstructionSet self.old self.new (λ k s. host_step (fits_of S.Store S.Item.Element self.old) k (request_of place bytes.now args.old results.old) s) result }
+        ensures does { (c : Request) → c.bytes ≡ bytes.now → roomy c ≡ true → Does S.Store S.Item.Element I.InstructionSet self.old self.new (λ k s. host_step (fits_of S.Store S.Item.Element self.old) k c s) result }
         ensures lender { S.Store.lender self.new.store ≡ S.Store.lender self.old.store }
     {
-        if bytes.len() != 32 {
-            return Answer::Refused(Refusal::Malformed(Malformed::Length));
-        }
+        let Some(bytes) = bytes.as_array::<32>() else {
+            return Err(Refusal::Malformed(Malformed::Length));
+        };
         if self.store.len() != self.sheet.size() {
-            return Answer::Refused(Refusal::Size);
+            return Err(Refusal::Size);
         }
         self.answer_record(bytes, args, results)
     }
@@ -75,10 +70,10 @@ impl<S: Store, I: InstructionSet<S::Item>> Host<S, I> {
         ensures lender { S.Store.lender self.new.store ≡ S.Store.lender self.old.store }
     {
         if args.len() < 8 || results.len() < 4 {
-            *log = logged(place, bytes, Answer::Refused(short_of(bytes)));
+            *log = logged(place, bytes, Err(short_of(bytes)));
             return;
         }
-        let answer = self.answer(place, bytes, args, results);
+        let answer = self.answer(bytes, args, results);
         clear(args);
         clear(results);
         *log = logged(place, bytes, answer);
@@ -96,7 +91,7 @@ impl<S: Store, I: InstructionSet<S::Item>> Host<S, I> {
         ensures cleared { Cleared S.Item.Element.blank (request_of place bytes.now args.old results.old) args.old args.new results.old results.new }
         ensures lender { S.Store.lender self.new.store ≡ S.Store.lender self.old.store }
     {
-        let mut log = LogRecord::new(place, 0, 0, Answer::Granted);
+        let mut log = LogRecord::new(place, 0, 0, Ok(None));
         self.command_into(place, bytes, args, results, &mut log);
         log
     }

@@ -15,7 +15,7 @@ use transfer::row::SaveRow;
 fn turn_of(held: bool, holder: u8) -> Option<u8>
     ensures { result ≡ kept_turn held holder }
 {
-    if held { Some(holder) } else { None }
+    held.then_some(holder)
 }
 
 impl Kept {

@@ -14,11 +14,7 @@ use store::store::Store;
 fn misfit(cells: usize, size: usize) -> Option<Refusal>
     ensures { result ≡ (if nat_eq cells size then None else Some refusal.Size) }
 {
-    if cells == size {
-        None
-    } else {
-        Some(Refusal::Size)
-    }
+    (cells != size).then_some(Refusal::Size)
 }
 
 impl<S: Store, I: InstructionSet<S::Item>> Host<S, I> {

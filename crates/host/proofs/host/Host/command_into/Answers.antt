@@ -1,8 +1,7 @@
-use Rattle.std.proofs.Common.{◌≡◌, ℕ, Bool, true, false, cond, List, length, replicate, sym, refl, ap, ◌∙◌, arith}
+use Rattle.std.proofs.Common.{◌≡◌, ℕ, Bool, true, false, cond, List, length, replicate, Err, sym, refl, ap, ◌∙◌, arith}
 use Rattle.command.specs.declared.malformed.Malformed.TheVariants.{Length}
 use Rattle.command.specs.declared.refusal.Refusal.{Refusal}
 use Rattle.command.specs.declared.refusal.Refusal.TheVariants.{Malformed, Scratch}
-use Rattle.command.specs.declared.log.Answer.TheVariants.{Refused}
 use Rattle.command.specs.declared.log.LogRecord.{LogRecord}
 use Rattle.reply.specs.Told.{Told, told}
 use Rattle.isolation.specs.Request.{Request, whole, roomy, part, kind, entry, Step}
@@ -23,7 +22,7 @@ nulls b z xs ys e h = rw e h
 untouched : {E : Type 0} (b : Bool) (z : E) (xs : List E) → b ≡ false → xs ≡ left_null b z xs
 untouched b z xs e = rw e
 
-told_short : (b : Bool) → told (Refused (cond b Scratch (Malformed Length))) ≡ record { refusal = cond b 6 1; detail = 0; missed = 0; count = 0; words = replicate 8 0 }
+told_short : (b : Bool) → told (Err (cond b Scratch (Malformed Length))) ≡ record { refusal = cond b 6 1; detail = 0; missed = 0; count = 0; words = replicate 8 0 }
 told_short true = refl
 told_short false = refl
 
@@ -35,7 +34,7 @@ returns-then-args-lt8 g c =
     let b = fits_of {I = g.row.I.Denot} g.S.Store g.S.Item.Element h in
     let r : roomy q ≡ false = no_room q c.then-args-lt8.either in
     let e = λ (m : ℕ → g.row.S-Item.Denot). step_short (making_of {S = g.row.S.Denot} g.S.Item.Element g.I.InstructionSet h m) q s b r in
-    let why = ap (λ (x : Refusal). told (Refused x)) c.short_of.ensures ∙ told_short (whole q) in
+    let why = ap (λ (x : Refusal). told (Err x)) c.short_of.ensures ∙ told_short (whole q) in
     record {
       commanded = commanded g.S.Store g.S.Item.Element g.I.InstructionSet h h q c.logged.result
           (λ m. c.logged.ensures ∙ (ap (logs q) why ∙ sym (ap (λ (t : Step g.row.S-Item.Denot (State g.row.S-Item.Denot)). record_of g.S.Item.Element.packed (entry q t.answer)) (e m))))
@@ -54,11 +53,12 @@ returns g c =
     let z = g.S.Item.Element.blank in
     let r : roomy q ≡ true = rooms q c.if-args-lt8.false c.if-results-lt4.false in
     let la : length c.answer-answer.new.args ≡ length c.args.args.now = omega arith in
+    let does = c.answer-answer.ensures.does q refl r in
     let lr : length c.answer-answer.new.results ≡ length c.args.results.now = omega arith in
     record {
       commanded = commanded g.S.Store g.S.Item.Element g.I.InstructionSet h c.answer-answer.new.self q c.logged-2.result
-          (λ m. c.logged-2.ensures ∙ ap (logs q) (c.answer-answer.ensures.does.answer m))
-          c.answer-answer.ensures.does.state c.answer-answer.ensures.does.making c.answer-answer.ensures.does.fits;
+          (λ m. c.logged-2.ensures ∙ ap (logs q) (does.answer m))
+          does.state does.making does.fits;
       cleared = record {
         args = nulls (roomy q) z c.args.args.now c.clear.new.places r (c.clear.ensures ∙ ap (λ (n : ℕ). replicate n z) la);
         results = nulls (roomy q) z c.args.results.now c.clear-2.new.places r (c.clear-2.ensures ∙ ap (λ (n : ℕ). replicate n z) lr);

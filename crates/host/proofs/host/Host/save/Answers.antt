@@ -20,7 +20,7 @@ returns g c =
       does = record {
         state = λ m. ap₂ (λ (x : ℕ → g.row.S-Item.Denot) (y : ℕ → ℕ → g.row.S-Item.Denot). record { cells = x; save_rows = y; turn = closed; queues = s.queues })
             (ap (at z) c.swap_out-row.ensures.store.cells)
-            (ap (saves_of u z sw) c.keep.ensures.kept ∙ saved u z (take 16 r) sw h.rows c.args.part c.swap_out-row.result xs (all_swaps r sw c.swaps.ensures.value c.swaps.ensures.few) c.keep.ensures.one c.swap_out-row.ensures.row.each);
+            (ap (saves_of u z sw) c.keep.ensures.kept ∙ saved u z (take 16 r) sw h.rows c.args.part.number c.swap_out-row.result xs (all_swaps r sw c.swaps.ensures.value c.swaps.ensures.few) c.keep.ensures.one c.swap_out-row.ensures.row.each);
         making = λ m. refl;
         fits = ap (λ (l : List g.row.S-Item.Denot). eqb (length l) h.sheet.size) c.swap_out-row.ensures.store.cells;
         answer = λ m. refl;
