@@ -61,18 +61,15 @@ fn play(
 // Reads, plays, prints and writes the log.
 fn perform(rt: &HostRuntime, words: Vec<String>) -> Result<(), Fault> {
     let heap = rt.alloc();
-    let options = read::options(heap, words)?;
+    let options = &read::options(heap, words)?;
     let text = read::text(rt, options.setup.as_str())?;
     let checked = read::setup(heap, options.setup.as_str(), text.as_str())?;
     let shows = read::shows(rt, options.shows.as_slice())?;
+    let play = |session: &mut Session| {
+        play(heap, options, text.as_str(), shows.as_slice(), session)
+    };
     let mut session = Session::new(heap);
-    let cells = play(
-        heap,
-        &options,
-        text.as_str(),
-        shows.as_slice(),
-        &mut session,
-    )?;
+    let cells = play(&mut session)?;
     if let Some(path) = &options.log {
         print::save(rt, path.as_str(), session.logs.as_slice())?;
     }
@@ -86,13 +83,7 @@ fn perform(rt: &HostRuntime, words: Vec<String>) -> Result<(), Fault> {
     if let Some(part) = options.solo {
         let upstream = checked.ports.upstream(part);
         session.leave(part);
-        let _cells = play(
-            heap,
-            &options,
-            text.as_str(),
-            shows.as_slice(),
-            &mut session,
-        )?;
+        let _cells = play(&mut session)?;
         print::alone(&mut out, part, upstream, session.tally)?;
     }
     Ok(out.flush()?)
