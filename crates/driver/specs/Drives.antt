@@ -23,6 +23,10 @@ use Rattle.driver.specs.declared.rig.Rig.{Rig}
 use Rattle.driver.specs.Kinds.{levels, level_codes, heads, head_codes}
 use Rattle.driver.specs.Outcomes.{commands_of, refused_by, unopened_by}
 
+-- nothing is written: what is kept, the words of the cells and the log stay
+abbrev pub Stays : Kept → Kept → List ℕ → List ℕ → List LogRecord → List LogRecord → Type 0
+Stays k k' ws ws' l l' = (k' ≡ k) × (ws' ≡ ws) × (l' ≡ l)
+
 module _ {I E : Type 0} (el : Elements E) (is : Sets I E) (i : I) where
   -- a run over words, which were ws and are ws'
   abbrev pub PlayedOn : Kept → Kept → List ℕ → List ℕ → ShowFile → List LogRecord → List LogRecord → List E → List E → List E → List E → Result ℕ RunRefusal → Type 0
@@ -35,6 +39,17 @@ module _ {I E : Type 0} (el : Elements E) (is : Sets I E) (i : I) where
   -- Of the host that is kept as k over the words ws: the requests cs were done, and it is kept as k' over ws'. The log was l and is l'.
   abbrev pub RanOn : Kept → Kept → List ℕ → List ℕ → List Request → List LogRecord → List LogRecord → Type 0
   RanOn k k' ws ws' cs l l' = Ran listed el is (resumed k (elements el.unpacked ws) i) (resumed k' (elements el.unpacked ws') i) cs l l'
+
+  -- A run over words that does all its commands. The scratch is full of null elements then, or untouched where there were none.
+  pub record RanAll (k k' : Kept) (ws ws' : List ℕ) (file : ShowFile) (l l' : List LogRecord) (xs xs' rs rs' : List E) : Type 0 where
+    pub ran : RanOn k k' ws ws' (requests_of file (length xs) (length rs)) l l'
+    pub args : xs' ≡ left_null (some (rest file)) el.blank xs
+    pub results : rs' ≡ left_null (some (rest file)) el.blank rs
+
+  -- a run over words: all its commands, or its refusal, and then nothing is written
+  abbrev pub Ends : Kept → Kept → List ℕ → List ℕ → ShowFile → List LogRecord → List LogRecord → List E → List E → List E → List E → Result ℕ RunRefusal → Type 0
+  Ends k k' ws ws' file l l' xs xs' rs rs' (Ok n) = RanAll k k' ws ws' file l l' xs xs' rs rs'
+  Ends k k' ws ws' file l l' xs xs' rs rs' (Err why) = Stays k k' ws ws' l l' × (xs' ≡ xs) × (rs' ≡ rs)
 
   -- Of the same host: request c was answered by r.
   abbrev pub CommandedOn : Kept → Kept → List ℕ → List ℕ → Request → LogRecord → Type 0

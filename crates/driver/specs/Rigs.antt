@@ -3,8 +3,17 @@ use Rattle.std.specs.Prelude.{◌≡◌, ℕ, cond, ◌&&◌, replicate, ◌==�
 use Rattle.part.specs.Sets.{parts}
 use Rattle.sheet.specs.Rows.{made, granted, swapped}
 use Rattle.sheet.specs.View.{rows_of}
+use Rattle.sheet.specs.View as sheet
 use Rattle.port.specs.Sets.{no_sets, settled}
 use Rattle.driver.specs.declared.rig.Rig.{Rig}
+use Rattle.driver.specs.declared.rig.calls.RigRefusal.{RigRefusal}
+use Rattle.driver.specs.declared.rig.calls.RigRefusal.TheVariants.{Kind, Layers, AtSheet}
+
+-- the number of each refusal of a new rig
+abbrev pub number_of : RigRefusal → ℕ
+number_of Kind = 101
+number_of Layers = 102
+number_of (AtSheet why) = sheet.number_of why
 
 -- the refusal of a new rig: a kind other than 0 and 1, more than two layers, then the sheet's own
 abbrev pub new_number : ℕ → ℕ → ℕ → ℕ

@@ -1,18 +1,16 @@
 // The calls that a driver makes.
-ghost use Rattle.std.specs.Prelude.{◌≡◌, ◌≤◌, length};
-ghost use Rattle.showfile.specs.Opening.{rest};
-ghost use Rattle.driver.specs.Drives.{Drives, DrivesLent, RunsLent, Opens, Commands, MadeKept, MakesHost};
+ghost use Rattle.driver.specs.Drives.{Drives, DrivesLent, Opens, Commands, MadeKept, MakesHost};
 
 use crate::kept_host::KeptHost;
 use crate::outcome::{Outcome, WRONG_KIND};
 use crate::own::{command_own, run_own};
 use crate::rig::Rig;
-use crate::runs::run_levels;
+use crate::runs::run_over;
 use command::log::LogRecord;
+use command::refusal::Refusal;
 use element::head::Head;
 use element::level::Level;
 use host::host::Kept;
-use run::refusal::RunRefusal;
 use sets::head_set::HeadSet;
 use sets::level_set::LevelSet;
 use showfile::file::ShowFile;
@@ -21,6 +19,7 @@ use showfile::file::ShowFile;
 fn kept_of(rig: &Rig) -> Kept
     ensures { MadeKept rig.now result }
 {
+    // The kind is a flag, since C keeps the rig.
     if rig.heads {
         Kept::new::<Head, HeadSet>(rig.sheet, rig.ports)
     } else {
@@ -36,7 +35,7 @@ pub extern "C" fn nuvkerd_make(rig: &Rig, cells: &[u32], refusal: &mut u32) -> K
     *refusal = if cells.len() / 2 == rig.sheet.size() {
         0
     } else {
-        19
+        Refusal::Size.number() as u32
     };
     KeptHost {
         kept: kept_of(rig),
@@ -52,7 +51,7 @@ pub extern "C" fn nuvkerd_open(show: &[u8]) -> Outcome
 {
     match ShowFile::open(show) {
         Ok(file) => Outcome::of(file.remaining()),
-        Err(why) => Outcome::unopened(why),
+        Err(why) => Outcome::from(why),
     }
 }
 
@@ -67,34 +66,9 @@ pub extern "C" fn nuvkerd_run(
     ensures { Drives host.old host.new cells.old cells.new show.now log.old log.new result }
 {
     match ShowFile::open(show) {
-        Ok(file) => {
-            let commands = file.remaining();
-            if log.len() < commands {
-                return Outcome::refused(RunRefusal::Log.number() as u32);
-            }
-            run_own(host, cells, file, log);
-            Outcome::of(commands)
-        }
-        Err(why) => Outcome::unopened(why),
+        Ok(file) => Outcome::ended(file.remaining(), run_own(host, cells, file, log)),
+        Err(why) => Outcome::from(why),
     }
-}
-
-// A run of levels with lent scratch that is not refused.
-fn run_lent(
-    host: &mut KeptHost,
-    cells: &mut [u32],
-    file: ShowFile,
-    log: &mut [LogRecord],
-    args: &mut [Level],
-    results: &mut [Level],
-)
-    requires args { 8 ≤ length args.old }
-    requires results { 4 ≤ length results.old }
-    requires log { length (rest file) ≤ length log.old }
-    ensures { RunsLent host.old host.new cells.old cells.new file.entry log.old log.new args.old args.new results.old results.new }
-{
-    let layers = host.layers;
-    let _ = run_levels(&mut host.kept, layers, cells, file, log, args, results);
 }
 
 // Runs a show of levels with lent scratch, one byte an element: refusals 1 to 4, 103, 6, 5, or one log record a command.
@@ -110,21 +84,23 @@ pub extern "C" fn nuvkerd_run_levels(
     ensures { DrivesLent host.old host.new cells.old cells.new show.now log.old log.new args.old args.new results.old results.new result }
 {
     match ShowFile::open(show) {
+        Ok(_) if host.heads => Outcome::refused(WRONG_KIND),
         Ok(file) => {
-            if host.heads {
-                return Outcome::refused(WRONG_KIND);
-            }
-            if args.len() < 8 || results.len() < 4 {
-                return Outcome::refused(RunRefusal::Scratch.number() as u32);
-            }
             let commands = file.remaining();
-            if log.len() < commands {
-                return Outcome::refused(RunRefusal::Log.number() as u32);
-            }
-            run_lent(host, cells, file, log, args, results);
-            Outcome::of(commands)
+            let layers = host.layers;
+            let ended = run_over(
+                &mut host.kept,
+                layers,
+                cells,
+                LevelSet::new(),
+                file,
+                log,
+                args,
+                results,
+            );
+            Outcome::ended(commands, ended)
         }
-        Err(why) => Outcome::unopened(why),
+        Err(why) => Outcome::from(why),
     }
 }
 

@@ -1,4 +1,5 @@
 ghost use Rattle.std.specs.Prelude.{◌≡◌, ◌^◌, ◌<◌};
+ghost use Rattle.run.specs.Refusals.{number_of};
 ghost use Rattle.driver.specs.Outcomes.{commands_of, refused_by, unopened_by, ended_as};
 
 use run::refusal::RunRefusal;
@@ -8,7 +9,7 @@ use showfile::refusal::FileRefusal;
 pub const WRONG_KIND: u32 = 103;
 
 // What opening or running a show gave: a refusal or 0, the record that refusal 3 names or 0, and how many commands there are, 0 with a
-// refusal.
+// refusal. It is C's, so a refusal is a number here.
 #[repr(C)]
 #[derive(Clone, Copy, PartialEq, Eq, Debug)]
 pub struct Outcome {
@@ -41,21 +42,6 @@ impl Outcome {
         }
     }
 
-    // A file that is not opened.
-    pub(crate) fn unopened(why: FileRefusal) -> Outcome
-        ensures { result ≡ unopened_by why }
-    {
-        let at = match why {
-            FileRefusal::Outside(record) => record as u32,
-            _ => 0,
-        };
-        Outcome {
-            refusal: why.number() as u32,
-            at,
-            commands: 0,
-        }
-    }
-
     // How a run of so many commands ended.
     pub(crate) fn ended(commands: usize, ended: Result<usize, RunRefusal>) -> Outcome
         requires { commands < 2 ^ 16 }
@@ -63,7 +49,32 @@ impl Outcome {
     {
         match ended {
             Ok(_) => Outcome::of(commands),
-            Err(why) => Outcome::refused(why.number() as u32),
+            Err(why) => Outcome::from(why),
         }
+    }
+}
+
+// A file that is not opened.
+impl From<FileRefusal> for Outcome {
+    ghost from_gives = { λ why o. o ≡ unopened_by why };
+
+    fn from(why: FileRefusal) -> Outcome {
+        let at = match why {
+            FileRefusal::Outside(record) => record as u32,
+            _ => 0,
+        };
+        Outcome {
+            at,
+            ..Outcome::refused(why.number() as u32)
+        }
+    }
+}
+
+// A run that is refused.
+impl From<RunRefusal> for Outcome {
+    ghost from_gives = { λ why o. o ≡ refused_by (number_of why) };
+
+    fn from(why: RunRefusal) -> Outcome {
+        Outcome::refused(why.number() as u32)
     }
 }

@@ -1,159 +1,89 @@
-// Runs and commands of each kind, over packed words.
-ghost use Rattle.std.specs.Prelude.{◌≡◌};
+// Runs and commands of any kind, over packed words.
+ghost use Rattle.std.specs.Prelude.{◌≡◌, length};
+ghost use Rattle.showfile.specs.Opening.{rest};
 ghost use Rattle.host.specs.Parts.{request_of};
-ghost use Rattle.driver.specs.Kinds.{levels, level_codes, heads, head_codes};
-ghost use Rattle.driver.specs.Drives.{PlayedOn, DidOn};
+ghost use Rattle.run.specs.Runs.{answered};
+ghost use Rattle.driver.specs.Drives.{PlayedOn, DidOn, Ends};
 
 use command::log::LogRecord;
-use element::head::Head;
-use element::level::Level;
+use element::element::Element;
 use host::host::Kept;
+use instruction::set::InstructionSet;
 use pile::show::run_kept;
 use pile::single::command_kept;
 use run::refusal::RunRefusal;
-use sets::head_set::HeadSet;
-use sets::level_set::LevelSet;
 use showfile::file::ShowFile;
 use store::packed::Packed;
 
-// A run of levels on a store over lent words, with lent scratch.
-fn run_levels_in(
+// A run on a store over lent words, with lent scratch.
+fn run_in<E: Element, I: InstructionSet<E> + Drop>(
     kept: &mut Kept,
     layers: u8,
-    store: &mut Packed<'_, Level>,
+    store: &mut Packed<'_, E>,
+    set: I,
     file: ShowFile,
     log: &mut [LogRecord],
-    args: &mut [Level],
-    results: &mut [Level],
+    args: &mut [E],
+    results: &mut [E],
 ) -> Result<usize, RunRefusal>
-    ensures played { PlayedOn levels level_codes (record {}) kept.old kept.new store.old.words.now store.new.words.now file.entry log.old log.new args.old args.new results.old results.new result }
+    ensures played { PlayedOn E.Element I.InstructionSet set kept.old kept.new store.old.words.now store.new.words.now file.entry log.old log.new args.old args.new results.old results.new result }
     ensures lender { store.new.words.ghost_name ≡ store.old.words.ghost_name }
 {
-    run_kept(
-        layers,
-        store,
-        LevelSet::new(),
-        kept,
-        file,
-        log,
-        args,
-        results,
-    )
+    run_kept(layers, store, set, kept, file, log, args, results)
 }
 
-// A run of levels over words, with lent scratch.
-pub(crate) fn run_levels(
+// A run over words, with lent scratch; where it is refused, nothing is written.
+pub(crate) fn run_over<E: Element, I: InstructionSet<E> + Drop>(
     kept: &mut Kept,
     layers: u8,
     cells: &mut [u32],
+    set: I,
     file: ShowFile,
     log: &mut [LogRecord],
-    args: &mut [Level],
-    results: &mut [Level],
+    args: &mut [E],
+    results: &mut [E],
 ) -> Result<usize, RunRefusal>
-    ensures { PlayedOn levels level_codes (record {}) kept.old kept.new cells.old cells.new file.entry log.old log.new args.old args.new results.old results.new result }
+    ensures answer { result ≡ answered (length (rest file.entry)) (length log.old) (length args.old) (length results.old) }
+    ensures ends { Ends E.Element I.InstructionSet set kept.old kept.new cells.old cells.new file.entry log.old log.new args.old args.new results.old results.new result }
 {
-    let mut store = Packed::<Level>::new(cells);
-    run_levels_in(kept, layers, &mut store, file, log, args, results)
+    if args.len() < 8 || results.len() < 4 {
+        return Err(RunRefusal::Scratch);
+    }
+    if log.len() < file.remaining() {
+        return Err(RunRefusal::Log);
+    }
+    let mut store = Packed::<E>::new(cells);
+    run_in(kept, layers, &mut store, set, file, log, args, results)
 }
 
-// A run of heads on a store over lent words, with lent scratch.
-fn run_heads_in(
+// One command on a store over lent words.
+fn command_in<E: Element, I: InstructionSet<E> + Drop>(
     kept: &mut Kept,
-    layers: u8,
-    store: &mut Packed<'_, Head>,
-    file: ShowFile,
-    log: &mut [LogRecord],
-    args: &mut [Head],
-    results: &mut [Head],
-) -> Result<usize, RunRefusal>
-    ensures played { PlayedOn heads head_codes (record {}) kept.old kept.new store.old.words.now store.new.words.now file.entry log.old log.new args.old args.new results.old results.new result }
+    store: &mut Packed<'_, E>,
+    set: I,
+    place: u32,
+    bytes: &[u8],
+    args: &mut [E],
+    results: &mut [E],
+) -> LogRecord
+    ensures did { DidOn E.Element I.InstructionSet set kept.old kept.new store.old.words.now store.new.words.now (request_of place bytes.now args.old results.old) args.old args.new results.old results.new result }
     ensures lender { store.new.words.ghost_name ≡ store.old.words.ghost_name }
 {
-    run_kept(
-        layers,
-        store,
-        HeadSet::new(),
-        kept,
-        file,
-        log,
-        args,
-        results,
-    )
+    command_kept(store, set, kept, place, bytes, args, results)
 }
 
-// A run of heads over words, with lent scratch.
-pub(crate) fn run_heads(
-    kept: &mut Kept,
-    layers: u8,
-    cells: &mut [u32],
-    file: ShowFile,
-    log: &mut [LogRecord],
-    args: &mut [Head],
-    results: &mut [Head],
-) -> Result<usize, RunRefusal>
-    ensures { PlayedOn heads head_codes (record {}) kept.old kept.new cells.old cells.new file.entry log.old log.new args.old args.new results.old results.new result }
-{
-    let mut store = Packed::<Head>::new(cells);
-    run_heads_in(kept, layers, &mut store, file, log, args, results)
-}
-
-// One command of levels on a store over lent words.
-fn command_levels_in(
-    kept: &mut Kept,
-    store: &mut Packed<'_, Level>,
-    place: u32,
-    bytes: &[u8],
-    args: &mut [Level],
-    results: &mut [Level],
-) -> LogRecord
-    ensures did { DidOn levels level_codes (record {}) kept.old kept.new store.old.words.now store.new.words.now (request_of place bytes.now args.old results.old) args.old args.new results.old results.new result }
-    ensures lender { store.new.words.ghost_name ≡ store.old.words.ghost_name }
-{
-    command_kept(store, LevelSet::new(), kept, place, bytes, args, results)
-}
-
-// One command of levels over words.
-pub(crate) fn command_levels(
+// One command over words.
+pub(crate) fn command_over<E: Element, I: InstructionSet<E> + Drop>(
     kept: &mut Kept,
     cells: &mut [u32],
+    set: I,
     place: u32,
     bytes: &[u8],
-    args: &mut [Level],
-    results: &mut [Level],
+    args: &mut [E],
+    results: &mut [E],
 ) -> LogRecord
-    ensures { DidOn levels level_codes (record {}) kept.old kept.new cells.old cells.new (request_of place bytes.now args.old results.old) args.old args.new results.old results.new result }
+    ensures { DidOn E.Element I.InstructionSet set kept.old kept.new cells.old cells.new (request_of place bytes.now args.old results.old) args.old args.new results.old results.new result }
 {
-    let mut store = Packed::<Level>::new(cells);
-    command_levels_in(kept, &mut store, place, bytes, args, results)
-}
-
-// One command of heads on a store over lent words.
-fn command_heads_in(
-    kept: &mut Kept,
-    store: &mut Packed<'_, Head>,
-    place: u32,
-    bytes: &[u8],
-    args: &mut [Head],
-    results: &mut [Head],
-) -> LogRecord
-    ensures did { DidOn heads head_codes (record {}) kept.old kept.new store.old.words.now store.new.words.now (request_of place bytes.now args.old results.old) args.old args.new results.old results.new result }
-    ensures lender { store.new.words.ghost_name ≡ store.old.words.ghost_name }
-{
-    command_kept(store, HeadSet::new(), kept, place, bytes, args, results)
-}
-
-// One command of heads over words.
-pub(crate) fn command_heads(
-    kept: &mut Kept,
-    cells: &mut [u32],
-    place: u32,
-    bytes: &[u8],
-    args: &mut [Head],
-    results: &mut [Head],
-) -> LogRecord
-    ensures { DidOn heads head_codes (record {}) kept.old kept.new cells.old cells.new (request_of place bytes.now args.old results.old) args.old args.new results.old results.new result }
-{
-    let mut store = Packed::<Head>::new(cells);
-    command_heads_in(kept, &mut store, place, bytes, args, results)
+    let mut store = Packed::<E>::new(cells);
+    command_in(kept, &mut store, set, place, bytes, args, results)
 }

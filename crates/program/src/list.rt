@@ -9,15 +9,12 @@ use std::io::{BufWriter, Write};
 
 // One line a record on the chain, and a closing line.
 fn lines<W: Write>(out: &mut W, file: ShowFile) -> io::Result<()> {
-    let records = file.remaining();
-    let mut refused = 0usize;
     for (place, bytes) in file {
-        if decode(bytes).is_err() {
-            refused = refused.saturating_add(1);
-        }
         let listed = Listed { place, bytes };
         writeln!(out, "{listed}")?;
     }
+    let records = file.remaining();
+    let refused = file.filter(|(_, bytes)| decode(bytes).is_err()).count();
     writeln!(out, "{records} records on the chain, {refused} refused")
 }
 
@@ -27,12 +24,12 @@ pub(crate) fn show(rt: &HostRuntime, path: &str) -> Result<(), Fault> {
         return Err(Fault::Usage);
     }
     let bytes = read::show(rt, path)?;
-    match ShowFile::open(bytes.as_slice()) {
-        Ok(file) => {
-            let mut out = BufWriter::new(rt.alloc(), rt.stdout())?;
-            lines(&mut out, file)?;
-            Ok(out.flush()?)
-        }
-        Err(why) => Err(read::show_fault(rt.alloc(), path, why)),
-    }
+    let file = ShowFile::open(bytes.as_slice()).map_err(|why| read::about(
+        rt.alloc(),
+        path,
+        |path| Fault::Show { path, why },
+    ))?;
+    let mut out = BufWriter::new(rt.alloc(), rt.stdout())?;
+    lines(&mut out, file)?;
+    Ok(out.flush()?)
 }

@@ -4,27 +4,49 @@ use console::fault::Fault;
 use console::options::Options;
 use stage::fault::StageFault;
 use stage::last_cells::Cells;
-use stage::session::{Session, Tally};
+use stage::session::Session;
 use stage::stage::play_shows;
 use std::alloc::Global;
 use std::io::{BufWriter, Write};
+
+// The fault that is made of the path of a show by its number.
+fn about_show<F: FnOnce(String) -> Fault>(
+    heap: Global,
+    options: &Options,
+    show: usize,
+    fault: F,
+) -> Fault
+    requires { F.IsAlwaysCallable fault }
+{
+    match options.shows.get(show) {
+        Some(path) => read::about(heap, path.as_str(), fault),
+        None => Fault::Usage,
+    }
+}
 
 // The fault of the program, with the file that it is about.
 fn fault_of(heap: Global, options: &Options, fault: StageFault) -> Fault {
     match fault {
         StageFault::Memory => Fault::Memory,
-        StageFault::Host(why) => read::run_fault(heap, options.setup.as_str(), why.number()),
-        StageFault::Show { show, why } if show < options.shows.len() => {
-            read::show_fault(heap, options.shows[show].as_str(), why)
+        StageFault::Host(why) => {
+            let refusal = why.number();
+            read::about(
+                heap,
+                options.setup.as_str(),
+                |path| Fault::Run { path, refusal },
+            )
         }
-        StageFault::Run { show, why } if show < options.shows.len() => {
-            read::run_fault(heap, options.shows[show].as_str(), why.number())
+        StageFault::Show { show, why } => {
+            about_show(heap, options, show, |path| Fault::Show { path, why })
         }
-        _ => Fault::Usage,
+        StageFault::Run { show, why } => {
+            let refusal = why.number();
+            about_show(heap, options, show, |path| Fault::Run { path, refusal })
+        }
     }
 }
 
-// Plays as the session's task asks, on a host of the setup's making.
+// Plays as the session asks, on a host of the setup's making.
 fn play(
     heap: Global,
     options: &Options,
@@ -33,27 +55,21 @@ fn play(
     session: &mut Session,
 ) -> Result<Cells, Fault> {
     let setup = read::setup(heap, options.setup.as_str(), text)?;
-    match play_shows(heap, setup, shows, session) {
-        Ok(cells) => Ok(cells),
-        Err(fault) => Err(fault_of(heap, options, fault)),
-    }
+    play_shows(heap, setup, shows, session).map_err(|fault| fault_of(heap, options, fault))
 }
 
 // Reads, plays, prints and writes the log.
 fn perform(rt: &HostRuntime, words: Vec<String>) -> Result<(), Fault> {
     let heap = rt.alloc();
-    let options = read::options(heap, words)?;
+    let options = &read::options(heap, words)?;
     let text = read::text(rt, options.setup.as_str())?;
     let checked = read::setup(heap, options.setup.as_str(), text.as_str())?;
     let shows = read::shows(rt, options.shows.as_slice())?;
+    let play = |session: &mut Session| {
+        play(heap, options, text.as_str(), shows.as_slice(), session)
+    };
     let mut session = Session::new(heap);
-    let cells = play(
-        heap,
-        &options,
-        text.as_str(),
-        shows.as_slice(),
-        &mut session,
-    )?;
+    let cells = play(&mut session)?;
     if let Some(path) = &options.log {
         print::save(rt, path.as_str(), session.logs.as_slice())?;
     }
@@ -67,13 +83,7 @@ fn perform(rt: &HostRuntime, words: Vec<String>) -> Result<(), Fault> {
     if let Some(part) = options.solo {
         let upstream = checked.ports.upstream(part);
         session.leave(part);
-        let _cells = play(
-            heap,
-            &options,
-            text.as_str(),
-            shows.as_slice(),
-            &mut session,
-        )?;
+        let _cells = play(&mut session)?;
         print::alone(&mut out, part, upstream, session.tally)?;
     }
     Ok(out.flush()?)
@@ -82,8 +92,8 @@ fn perform(rt: &HostRuntime, words: Vec<String>) -> Result<(), Fault> {
 // A show file alone is printed; a setup with shows is played.
 fn choose(rt: &HostRuntime) -> Result<(), Fault> {
     let words = read::words(rt)?;
-    if words.len() == 1 {
-        return list::show(rt, words[0].as_str());
+    if let [path] = words.as_slice() {
+        return list::show(rt, path.as_str());
     }
     perform(rt, words)
 }

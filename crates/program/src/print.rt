@@ -1,5 +1,5 @@
 // What is printed, and the log file.
-use crate::read::file_fault;
+use crate::read::about;
 use command::log::LogRecord;
 use console::fault::Fault;
 use console::table::{cells, closing, headings, rows};
@@ -15,6 +15,15 @@ use std::fmt::Display;
 use std::io::Write;
 use std::{fs, io};
 
+// The sum of a number of each log, as far as a number goes.
+fn total<F: Fn(&[LogRecord]) -> usize>(logs: &[Vec<LogRecord>], number: F) -> usize
+    requires { F.IsAlwaysCallable number }
+{
+    logs.iter().fold(0, |sum: usize, log| {
+        sum.saturating_add(number(log.as_slice()))
+    })
+}
+
 // Each show's path and table, the cells, and the closing line.
 fn tables<E: Element + Display, W: Write>(
     out: &mut W,
@@ -22,20 +31,14 @@ fn tables<E: Element + Display, W: Write>(
     logs: &[Vec<LogRecord>],
     last: &[E],
 ) -> io::Result<()> {
-    let mut commands = 0usize;
-    let mut denied = 0usize;
-    for i in 0..paths.len().min(logs.len()) {
-        let path = paths[i].as_str();
-        let log = logs[i].as_slice();
+    for (path, log) in paths.iter().zip(logs) {
         writeln!(out, "{path}")?;
         headings(out)?;
-        rows::<E, W>(out, log)?;
+        rows::<E, W>(out, log.as_slice())?;
         writeln!(out, "")?;
-        commands = commands.saturating_add(log.len());
-        denied = denied.saturating_add(refused(log));
     }
     cells::<E, W>(out, last)?;
-    closing(out, commands, denied)
+    closing(out, total(logs, |log| log.len()), total(logs, refused))
 }
 
 // The whole run, by the kind of its cells.
@@ -54,10 +57,8 @@ pub(crate) fn whole<W: Write>(
 // The parts that can reach one part, itself among them.
 fn reaching<W: Write>(out: &mut W, part: u8, upstream: Mask) -> io::Result<()> {
     write!(out, "upstream of part {part}: parts")?;
-    for other in 0..PARTS {
-        if contains(upstream, other) {
-            write!(out, " {other}")?;
-        }
+    for other in (0..PARTS).filter(|part| contains(upstream, *part)) {
+        write!(out, " {other}")?;
     }
     writeln!(out, "")
 }
@@ -89,8 +90,9 @@ pub(crate) fn save(rt: &HostRuntime, path: &str, logs: &[Vec<LogRecord>]) -> Res
     for log in logs {
         add_log(&mut bytes, log.as_slice())?;
     }
-    match fs::write(rt, path, bytes.as_slice()) {
-        Ok(()) => Ok(()),
-        Err(error) => Err(file_fault(rt.alloc(), path, error)),
-    }
+    fs::write(rt, path, bytes.as_slice()).map_err(|error| about(
+        rt.alloc(),
+        path,
+        |path| Fault::File { path, error },
+    ))
 }

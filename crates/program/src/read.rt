@@ -4,19 +4,12 @@ use console::options::Options;
 use rig::parse::parse;
 use rig::whole_setup::Setup;
 use showfile::file::ShowFile;
-use showfile::refusal::FileRefusal;
 use std::alloc::Global;
-use std::{env, fs, io};
+use std::{env, fs};
 
 // The words of the command line, without the program's own name.
 pub(crate) fn words(rt: &HostRuntime) -> Result<Vec<String>, Fault> {
-    let mut words = env::args(rt)?;
-    let _program = words.next();
-    let mut list = Vec::new(rt.alloc());
-    for word in words {
-        list.push(word)?;
-    }
-    Ok(list)
+    Ok(env::args(rt)?.skip(1).collect(rt.alloc())?)
 }
 
 // What these words ask. A setup's path never begins as an option does.
@@ -28,70 +21,49 @@ pub(crate) fn options(heap: Global, words: Vec<String>) -> Result<Options, Fault
     Ok(options)
 }
 
-// The fault of a file that cannot be read or written.
-pub(crate) fn file_fault(heap: Global, path: &str, error: io::Error) -> Fault {
+// The fault that is made of a file's path; or there is no memory for the path.
+pub(crate) fn about<F: FnOnce(String) -> Fault>(heap: Global, path: &str, fault: F) -> Fault
+    requires { F.IsAlwaysCallable fault }
+{
     match String::from_str(heap, path) {
-        Ok(path) => Fault::File { path, error },
-        Err(_) => Fault::Memory,
-    }
-}
-
-// The fault of a show file that is not opened.
-pub(crate) fn show_fault(heap: Global, path: &str, why: FileRefusal) -> Fault {
-    match String::from_str(heap, path) {
-        Ok(path) => Fault::Show { path, why },
-        Err(_) => Fault::Memory,
-    }
-}
-
-// The fault of a run that is refused.
-pub(crate) fn run_fault(heap: Global, path: &str, refusal: u8) -> Fault {
-    match String::from_str(heap, path) {
-        Ok(path) => Fault::Run { path, refusal },
-        Err(_) => Fault::Memory,
+        Ok(path) => fault(path),
+        Err(error) => Fault::from(error),
     }
 }
 
 // The text of the setup.
 pub(crate) fn text(rt: &HostRuntime, path: &str) -> Result<String, Fault> {
-    match fs::read_to_string(rt, path) {
-        Ok(text) => Ok(text),
-        Err(error) => Err(file_fault(rt.alloc(), path, error)),
-    }
+    fs::read_to_string(rt, path).map_err(|error| about(
+        rt.alloc(),
+        path,
+        |path| Fault::File { path, error },
+    ))
 }
 
 // The setup of a text.
 pub(crate) fn setup(heap: Global, path: &str, text: &str) -> Result<Setup, Fault> {
-    match parse(text) {
-        Ok(setup) => Ok(setup),
-        Err(error) => match String::from_str(heap, path) {
-            Ok(path) => Err(Fault::Setup { path, error }),
-            Err(_) => Err(Fault::Memory),
-        },
-    }
+    parse(text).map_err(|error| about(heap, path, |path| Fault::Setup { path, error }))
 }
 
 // The bytes of a show file that can be opened.
 pub(crate) fn show(rt: &HostRuntime, path: &str) -> Result<Vec<u8>, Fault> {
-    let bytes = match fs::read(rt, path) {
-        Ok(bytes) => bytes,
-        Err(error) => return Err(file_fault(rt.alloc(), path, error)),
-    };
-    let why = match ShowFile::open(bytes.as_slice()) {
-        Ok(_) => None,
-        Err(why) => Some(why),
-    };
-    match why {
-        None => Ok(bytes),
-        Some(why) => Err(show_fault(rt.alloc(), path, why)),
-    }
+    let bytes = fs::read(rt, path).map_err(|error| about(
+        rt.alloc(),
+        path,
+        |path| Fault::File { path, error },
+    ))?;
+    let _file = ShowFile::open(bytes.as_slice()).map_err(|why| about(
+        rt.alloc(),
+        path,
+        |path| Fault::Show { path, why },
+    ))?;
+    Ok(bytes)
 }
 
 // The bytes of each show file, all of which can be opened.
 pub(crate) fn shows(rt: &HostRuntime, paths: &[String]) -> Result<Vec<Vec<u8>>, Fault> {
-    let mut list = Vec::new(rt.alloc());
-    for path in paths {
-        list.push(show(rt, path.as_str())?)?;
-    }
-    Ok(list)
+    paths
+        .iter()
+        .map(|path| show(rt, path.as_str()))
+        .try_collect(rt.alloc())
 }

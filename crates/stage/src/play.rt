@@ -4,11 +4,12 @@ ghost use Rattle.showfile.specs.Opening.{rest};
 
 use crate::fault::StageFault;
 use crate::memory::nulls;
-use crate::session::{Session, Tally, Task};
-use command::log::LogRecord;
+use crate::session::{Session, Tally};
+use command::log::{Answer, LogRecord};
 use element::element::Element;
 use host::host::{Host, Made};
 use instruction::set::InstructionSet;
+use layer::held::Held;
 use part::set::Mask;
 use port::ports::Ports;
 use run::show::run;
@@ -19,23 +20,21 @@ use solo::logs::same;
 use std::alloc::Global;
 use store::store::Store;
 
+// What is played and on what host, but for its store. The session stands apart: the checker takes no `&mut` beside a set of any type.
+#[derive(Drop)]
+pub(crate) struct Play<'a, I> {
+    pub heap: Global,
+    pub set: I,
+    pub sheet: Sheet,
+    pub ports: Ports,
+    pub shows: &'a [Vec<u8>],
+}
+
 // A store that was played on, and how that ended.
 pub(crate) struct Played<S> {
     pub store: S,
     pub ended: Result<(), StageFault>,
 }
-
-// An empty log record.
-const BLANK: LogRecord = LogRecord {
-    place: 0,
-    part: 0,
-    kind: 0,
-    refusal: 0,
-    detail: 0,
-    missed: 0,
-    count: 0,
-    words: [0; 8],
-};
 
 // The log of a whole show, one record a command.
 fn play_show<S: Store, I: InstructionSet<S::Item>>(
@@ -48,113 +47,131 @@ fn play_show<S: Store, I: InstructionSet<S::Item>>(
 {
     let mut args = nulls::<S::Item>(heap, 8)?;
     let mut results = nulls::<S::Item>(heap, 4)?;
-    let mut log = Vec::from_elem(heap, BLANK, file.remaining())?;
-    match run(
+    let blank = LogRecord::new(0, 0, 0, Answer::Granted);
+    let mut log = Vec::from_elem(heap, blank, file.remaining())?;
+    run(
         host,
         file,
         log.as_mut_slice(),
         args.as_mut_slice(),
         results.as_mut_slice(),
-    ) {
-        Ok(_) => Ok(log),
-        Err(why) => Err(StageFault::Run { show, why }),
-    }
+    )
+    .map_err(|why| StageFault::Run { show, why })?;
+    Ok(log)
 }
 
-// Plays what a show leaves for the parts of a set, where `first` is its log.
+// Plays what a show leaves for the parts of a set, where `first` is its log, and counts it in the tally.
 fn play_left<S: Store, I: InstructionSet<S::Item>>(
     heap: Global,
     host: &mut Host<S, I>,
     file: ShowFile,
     set: Mask,
     first: &[LogRecord],
-) -> Result<Tally, StageFault> {
+    tally: &mut Tally,
+) -> Result<(), StageFault> {
     let mut args = nulls::<S::Item>(heap, 8)?;
     let mut results = nulls::<S::Item>(heap, 4)?;
-    let mut tally = Tally { left: 0, alike: 0 };
-    let mut at = 0;
-    for (place, bytes) in file {
-        if at < first.len() {
-            if is_left(set, bytes, first[at].refusal) {
-                let again = host.command(
-                    place as u32,
-                    bytes,
-                    args.as_mut_slice(),
-                    results.as_mut_slice(),
-                );
-                tally.left = tally.left.saturating_add(1);
-                if same(&first[at], &again) {
-                    tally.alike = tally.alike.saturating_add(1);
-                }
-            }
-            at += 1;
-        }
-    }
-    Ok(tally)
-}
-
-// Plays the shows in their order, as the session's task asks.
-fn play_all<S: Store, I: InstructionSet<S::Item>>(
-    heap: Global,
-    host: &mut Host<S, I>,
-    upstream: Mask,
-    shows: &[Vec<u8>],
-    session: &mut Session,
-) -> Result<(), StageFault> {
-    for show in 0..shows.len() {
-        let file = match ShowFile::open(shows[show].as_slice()) {
-            Ok(file) => file,
-            Err(why) => return Err(StageFault::Show { show, why }),
-        };
-        match session.task {
-            Task::Whole => {
-                let log = play_show(heap, host, show, file)?;
-                session.logs.push(log)?;
-            }
-            Task::Left(_) => {
-                if show < session.logs.len() {
-                    let tally = play_left(
-                        heap,
-                        host,
-                        file,
-                        upstream,
-                        session.logs[show].as_slice(),
-                    )?;
-                    session.tally.left = session.tally.left.saturating_add(tally.left);
-                    session.tally.alike = session.tally.alike.saturating_add(tally.alike);
-                }
+    for ((place, bytes), before) in file.zip(first) {
+        if is_left(set, bytes, before.refusal) {
+            let again = host.command(
+                place as u32,
+                bytes,
+                args.as_mut_slice(),
+                results.as_mut_slice(),
+            );
+            tally.left = tally.left.saturating_add(1);
+            if same(before, &again) {
+                tally.alike = tally.alike.saturating_add(1);
             }
         }
     }
     Ok(())
 }
 
-// The parts upstream of the part that is played, or all.
-fn upstream(ports: &Ports, task: Task) -> Mask {
-    match task {
-        Task::Whole => 255,
-        Task::Left(part) => ports.upstream(part),
+// Opens the shows in their order and does this with each; the first fault ends it.
+fn each_show<F: FnMut(usize, ShowFile) -> Result<(), StageFault>>(
+    shows: &[Vec<u8>],
+    mut step: F,
+) -> Result<(), StageFault>
+    requires { F.IsAlwaysCallable step }
+{
+    for (show, bytes) in shows.iter().enumerate() {
+        let file = ShowFile::open(bytes.as_slice()).map_err(|why| StageFault::Show { show, why })?;
+        step(show, file)?;
     }
+    Ok(())
 }
 
-// Makes the host and plays the shows on it.
-pub(crate) fn play<S: Store, I: InstructionSet<S::Item> + Drop>(
+// Plays the shows whole, and keeps the log of each.
+fn play_whole<S: Store, I: InstructionSet<S::Item>>(
     heap: Global,
-    store: S,
-    set: I,
-    sheet: Sheet,
-    ports: Ports,
+    host: &mut Host<S, I>,
     shows: &[Vec<u8>],
-    session: &mut Session,
-) -> Played<S> {
-    let parts = upstream(&ports, session.task);
-    let Made { mut host, refusal } = Host::make(store, set, sheet, ports);
-    let ended = match refusal {
-        Some(why) => Err(StageFault::Host(why)),
-        None => play_all(heap, &mut host, parts, shows, session),
-    };
-    Played {
-        store: host.into_store(),
-        ended,
+    logs: &mut Vec<Vec<LogRecord>>,
+) -> Result<(), StageFault> {
+    each_show(shows, |show, file| {
+        logs.push(play_show(heap, host, show, file)?)?;
+        Ok(())
+    })
+}
+
+// Plays what the logs of the shows leave for the parts of a set.
+fn play_solo<S: Store, I: InstructionSet<S::Item>>(
+    heap: Global,
+    host: &mut Host<S, I>,
+    shows: &[Vec<u8>],
+    set: Mask,
+    logs: &[Vec<LogRecord>],
+    tally: &mut Tally,
+) -> Result<(), StageFault> {
+    each_show(shows, |show, file| match logs.get(show) {
+        Some(log) => play_left(heap, host, file, set, log.as_slice(), tally),
+        None => Ok(()),
+    })
+}
+
+impl<'a, I> Play<'a, I> {
+    // Makes the host and plays the shows on it, whole, or what they leave for the parts upstream of the part that is played alone.
+    pub(crate) fn on<S: Store>(self, store: S, session: &mut Session) -> Played<S>
+    where
+        I: InstructionSet<S::Item> + Drop,
+    {
+        let Play {
+            heap,
+            set,
+            sheet,
+            ports,
+            shows,
+        } = self;
+        let upstream = session.solo.map(|part| ports.upstream(part));
+        let Made { mut host, refusal } = Host::make(store, set, sheet, ports);
+        let ended = match (refusal, upstream) {
+            (Some(why), _) => Err(StageFault::Host(why)),
+            (None, None) => play_whole(heap, &mut host, shows, &mut session.logs),
+            (None, Some(set)) => play_solo(
+                heap,
+                &mut host,
+                shows,
+                set,
+                session.logs.as_slice(),
+                &mut session.tally,
+            ),
+        };
+        Played {
+            store: host.into_store(),
+            ended,
+        }
+    }
+
+    // The same through one layer.
+    pub(crate) fn held<S: Store>(self, store: S, session: &mut Session) -> Played<S>
+    where
+        I: InstructionSet<S::Item> + Drop,
+    {
+        let Played { store, ended } = self.on(Held::new(store), session);
+        Played {
+            store: store.close(),
+            ended,
+        }
     }
 }

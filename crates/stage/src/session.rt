@@ -4,26 +4,18 @@ ghost use Rattle.stage.specs.Sessions.{Begun, Turned};
 use command::log::LogRecord;
 use std::alloc::Global;
 
-// What is played.
-#[derive(Clone, Copy)]
-pub enum Task {
-    // Every command.
-    Whole,
-    // What is left for this part.
-    Left(u8),
-}
-
 // How many commands were left for a part, and how many of them were answered as they were before.
-#[derive(Clone, Copy, PartialEq, Eq, Debug)]
+#[derive(Clone, Copy, PartialEq, Eq, Debug, Default)]
 pub struct Tally {
     pub left: usize,
     pub alike: usize,
 }
 
-// The logs of the shows in their order, and the tally of what was left.
+// What is played, the logs of the shows in their order, and the tally of what was left.
 #[derive(Drop)]
 pub struct Session {
-    pub task: Task,
+    // The part for which only what is left is played; with none, every command is.
+    pub solo: Option<u8>,
     pub logs: Vec<Vec<LogRecord>>,
     pub tally: Tally,
 }
@@ -34,9 +26,9 @@ impl Session {
         ensures { Begun result }
     {
         Session {
-            task: Task::Whole,
+            solo: None,
             logs: Vec::new(heap),
-            tally: Tally { left: 0, alike: 0 },
+            tally: Tally::default(),
         }
     }
 
@@ -44,7 +36,7 @@ impl Session {
     pub fn leave(&mut self, part: u8)
         ensures { Turned self.old self.new part }
     {
-        self.task = Task::Left(part);
-        self.tally = Tally { left: 0, alike: 0 };
+        self.solo = Some(part);
+        self.tally = Tally::default();
     }
 }

@@ -2,54 +2,41 @@
 use crate::fault::StageFault;
 use crate::last_cells::Cells;
 use crate::memory::{laid_out, paired, unpacked};
-use crate::play::{Played, play};
+use crate::play::{Play, Played};
 use crate::session::Session;
 use element::element::Element;
 use element::head::Head;
 use element::level::Level;
 use instruction::set::InstructionSet;
 use layer::held::Held;
-use port::ports::Ports;
 use rig::whole_setup::Setup;
 use sets::head_set::HeadSet;
 use sets::level_set::LevelSet;
 use setup::directive::{Bottom, ElementKind};
-use sheet::sheet::Sheet;
 use std::alloc::Global;
 use store::flat::Flat;
 use store::packed::Packed;
 use store::store::Store;
 
-// The run over this store, on the chosen number of layers.
+// The run over this store, on the chosen number of layers. Each number has a type of its own, so there is an arm for each.
 fn layered<S: Store + Drop, I: InstructionSet<S::Item> + Drop>(
-    heap: Global,
     layers: u8,
     bottom: S,
-    set: I,
-    sheet: Sheet,
-    ports: Ports,
-    shows: &[Vec<u8>],
+    play: Play<'_, I>,
     session: &mut Session,
 ) -> Result<(), StageFault> {
-    match layers {
-        0 => {
-            let Played { store: _, ended } = play(heap, bottom, set, sheet, ports, shows, session);
-            ended
-        }
-        1 => {
-            let top = Held::new(bottom);
-            let Played { store, ended } = play(heap, top, set, sheet, ports, shows, session);
-            let _bottom = store.close();
-            ended
-        }
+    let Played { store: _, ended } = match layers {
+        0 => play.on(bottom, session),
+        1 => play.held(bottom, session),
         _ => {
-            let top = Held::new(Held::new(bottom));
-            let Played { store, ended } = play(heap, top, set, sheet, ports, shows, session);
-            let middle = store.close();
-            let _bottom = middle.close();
-            ended
+            let Played { store, ended } = play.held(Held::new(bottom), session);
+            Played {
+                store: store.close(),
+                ended,
+            }
         }
-    }
+    };
+    ended
 }
 
 // The run over the chosen store; what its cells hold then.
@@ -70,24 +57,29 @@ fn stored<E: Element, I: InstructionSet<E> + Drop>(
     } = setup;
     let size = sheet.size().min(512);
     let first = &elements[0..size];
+    let play = Play {
+        heap,
+        set,
+        sheet,
+        ports,
+        shows,
+    };
     match store {
         Bottom::Flat => {
             let mut cells = unpacked::<E>(heap, first)?;
-            let bottom = Flat::new(cells.as_mut_slice());
-            layered(heap, layers, bottom, set, sheet, ports, shows, session)?;
+            layered(layers, Flat::new(cells.as_mut_slice()), play, session)?;
             Ok(cells)
         }
         Bottom::Packed => {
             let mut list = laid_out(heap, first)?;
-            let bottom = Packed::<E>::new(list.as_mut_slice());
-            layered(heap, layers, bottom, set, sheet, ports, shows, session)?;
+            layered(layers, Packed::<E>::new(list.as_mut_slice()), play, session)?;
             let words = paired(heap, list.as_slice())?;
             Ok(unpacked::<E>(heap, words.as_slice())?)
         }
     }
 }
 
-// Makes the host that a setup asks for and plays the shows in order on it, as the session's task asks; what the cells hold then.
+// Makes the host that a setup asks for and plays the shows in order on it, as the session asks; what the cells hold then.
 pub fn play_shows(
     heap: Global,
     setup: Setup,
@@ -95,15 +87,9 @@ pub fn play_shows(
     session: &mut Session,
 ) -> Result<Cells, StageFault> {
     match setup.kind {
-        ElementKind::Level => {
-            let set = LevelSet::new();
-            let cells = stored::<Level, LevelSet>(heap, setup, set, shows, session)?;
-            Ok(Cells::Levels(cells))
-        }
-        ElementKind::Head => {
-            let set = HeadSet::new();
-            let cells = stored::<Head, HeadSet>(heap, setup, set, shows, session)?;
-            Ok(Cells::Heads(cells))
-        }
+        ElementKind::Level => stored(heap, setup, LevelSet::new(), shows, session).map(
+            Cells::Levels,
+        ),
+        ElementKind::Head => stored(heap, setup, HeadSet::new(), shows, session).map(Cells::Heads),
     }
 }

@@ -1,16 +1,18 @@
 // The calls on a rig.
-ghost use Rattle.std.specs.Prelude.{◌≡◌, ℕ, false, replicate};
+ghost use Rattle.std.specs.Prelude.{◌≡◌, ℕ, false, replicate, IfOk, IfErr, MatchResult};
 ghost use Rattle.part.specs.Sets.{parts};
 ghost use Rattle.sheet.specs.Rows.{made};
-ghost use Rattle.sheet.specs.View.{rows_of};
+ghost use Rattle.sheet.specs.View.{outcome, rows_of};
 ghost use Rattle.port.specs.Sets.{no_sets, sends_of, receives_of};
 ghost use Rattle.port.specs.Reach.{Reach};
-ghost use Rattle.driver.specs.Rigs.{NewRig, Grants, Swaps, Connects};
+ghost use Rattle.driver.specs.declared.rig.calls.RigRefusal.TheVariants.{AtSheet};
+ghost use Rattle.driver.specs.Rigs.{new_number, number_of, NewRig, Grants, Swaps, Connects};
 
 use super::Rig;
 use part::set::Mask;
 use port::ports::Ports;
-use sheet::sheet::Sheet;
+use sheet::refusal::Refusal;
+use sheet::sheet::{Refused, Sheet};
 
 // The refusal of a kind other than levels (0) and heads (1).
 pub const BAD_KIND: u32 = 101;
@@ -37,33 +39,83 @@ fn smallest() -> Rig
     }
 }
 
+// Why a rig is not made.
+#[derive(Clone, Copy)]
+enum RigRefusal {
+    Kind,
+    Layers,
+    AtSheet(Refusal),
+}
+
+impl RigRefusal {
+    // The refusal's number for C.
+    fn number(self) -> u32
+        ensures { result ≡ number_of self }
+    {
+        match self {
+            RigRefusal::Kind => BAD_KIND,
+            RigRefusal::Layers => BAD_LAYERS,
+            RigRefusal::AtSheet(why) => why.number() as u32,
+        }
+    }
+}
+
+impl From<Refused> for RigRefusal {
+    ghost from_gives = { λ refused why. why ≡ AtSheet refused.why };
+
+    fn from(refused: Refused) -> RigRefusal {
+        RigRefusal::AtSheet(refused.why)
+    }
+}
+
+// A rig of so many cells, with no bits, no swapped cells and no ports.
+fn rig_of(kind: u32, layers: u32, cells: usize) -> Result<Rig, RigRefusal>
+    ensures made { IfOk result (λ rig. NewRig kind layers cells rig 0) }
+    ensures refused { IfErr result (λ why. number_of why ≡ new_number kind layers cells) }
+{
+    if kind > 1 {
+        return Err(RigRefusal::Kind);
+    }
+    if layers > 2 {
+        return Err(RigRefusal::Layers);
+    }
+    let sheet = Sheet::new(cells)?;
+    Ok(Rig {
+        sheet,
+        ports: Ports::new(),
+        heads: kind == 1,
+        layers: layers as u8,
+    })
+}
+
 // A rig of so many cells, with no bits, no swapped cells and no ports; or a refusal, and then the smallest rig.
 #[unsafe(no_mangle)]
 pub extern "C" fn nuvkerd_rig_new(kind: u32, layers: u32, cells: usize, refusal: &mut u32) -> Rig
     ensures { NewRig kind layers cells result refusal.new }
 {
-    if kind > 1 {
-        *refusal = BAD_KIND;
-        return smallest();
-    }
-    if layers > 2 {
-        *refusal = BAD_LAYERS;
-        return smallest();
-    }
-    match Sheet::new(cells) {
-        Ok(sheet) => {
+    match rig_of(kind, layers, cells) {
+        Ok(rig) => {
             *refusal = 0;
-            Rig {
-                sheet,
-                ports: Ports::new(),
-                heads: kind == 1,
-                layers: layers as u8,
-            }
+            rig
         }
-        Err(refused) => {
-            *refusal = refused.why.number() as u32;
+        Err(why) => {
+            *refusal = why.number();
             smallest()
         }
+    }
+}
+
+// Puts a changed sheet in the old one's place and gives 0, or gives the number of its refusal.
+fn settle(sheet: &mut Sheet, changed: Result<Sheet, Refused>) -> u32
+    ensures number { result ≡ (outcome changed).number }
+    ensures sheet { MatchResult changed (λ s. sheet.new ≡ s) (λ e. sheet.new ≡ sheet.old) }
+{
+    match changed {
+        Ok(new) => {
+            *sheet = new;
+            0
+        }
+        Err(refused) => refused.why.number() as u32,
     }
 }
 
@@ -72,13 +124,8 @@ pub extern "C" fn nuvkerd_rig_new(kind: u32, layers: u32, cells: usize, refusal:
 pub extern "C" fn nuvkerd_rig_grant(rig: &mut Rig, cell: usize, part: u8, mode: u8) -> u32
     ensures { Grants rig.old rig.new cell part mode result }
 {
-    match rig.sheet.grant(cell, part, mode) {
-        Ok(sheet) => {
-            rig.sheet = sheet;
-            0
-        }
-        Err(refused) => refused.why.number() as u32,
-    }
+    let changed = rig.sheet.grant(cell, part, mode);
+    settle(&mut rig.sheet, changed)
 }
 
 // Makes a cell a swapped one; refusals 15, 16, 17.
@@ -86,13 +133,8 @@ pub extern "C" fn nuvkerd_rig_grant(rig: &mut Rig, cell: usize, part: u8, mode: 
 pub extern "C" fn nuvkerd_rig_swap(rig: &mut Rig, cell: usize) -> u32
     ensures { Swaps rig.old rig.new cell result }
 {
-    match rig.sheet.swap(cell) {
-        Ok(sheet) => {
-            rig.sheet = sheet;
-            0
-        }
-        Err(refused) => refused.why.number() as u32,
-    }
+    let changed = rig.sheet.swap(cell);
+    settle(&mut rig.sheet, changed)
 }
 
 // Sets who may send to a port and who may receive from it; refusal 11.
