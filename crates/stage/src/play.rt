@@ -5,7 +5,7 @@ ghost use Rattle.showfile.specs.Opening.{rest};
 use crate::fault::StageFault;
 use crate::memory::nulls;
 use crate::session::{Session, Tally};
-use command::log::{Answer, LogRecord};
+use command::log::LogRecord;
 use element::element::Element;
 use host::host::{Host, Made};
 use instruction::set::InstructionSet;
@@ -47,7 +47,7 @@ fn play_show<S: Store, I: InstructionSet<S::Item>>(
 {
     let mut args = nulls::<S::Item>(heap, 8)?;
     let mut results = nulls::<S::Item>(heap, 4)?;
-    let blank = LogRecord::new(0, 0, 0, Answer::Granted);
+    let blank = LogRecord::new(0, 0, 0, Ok(None));
     let mut log = Vec::from_elem(heap, blank, file.remaining())?;
     run(
         host,

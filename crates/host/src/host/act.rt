@@ -177,7 +177,7 @@ impl<S: Store, I: InstructionSet<S::Item>> Host<S, I> {
         ensures does { Does S.Store S.Item.Element I.InstructionSet self.old self.new (λ k s. record_step k bytes.now s) result }
         ensures lender { S.Store.lender self.new.store ≡ S.Store.lender self.old.store }
     {
-        let command = decode(bytes).map_err(Refusal::Malformed)?;
+        let command = decode(bytes)?;
         let part = Part::new(bytes[2]).ok_or(Refusal::Part)?;
         self.verdict(part, command)?;
         self.perform(part, command, args, results)
