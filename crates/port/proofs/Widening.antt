@@ -1,8 +1,8 @@
 -- A set widened by the ports that its members may receive from.
 -- Assumes nothing.
-use Rattle.std.proofs.Common.{◌≡◌, ℕ, zero, suc, ◌^◌, ◌<◌, ◌≤◌, Bool, true, false, cond, ◌||◌, eqb, ◌⊎◌, List, [], ◌∷◌, length, get_or, sym, refl, ap, ◌∙◌, inl, inr, le_of_suc-le-suc, not-suc-le-zero, arith}
+use Rattle.std.proofs.Common.{◌≡◌, ℕ, zero, suc, ◌^◌, ◌<◌, ◌≤◌, Bool, true, false, cond, not, ◌||◌, eqb, ◌⊎◌, List, [], ◌∷◌, length, get_or, filter, fold, sym, refl, ap, ◌∙◌, inl, inr, le_of_suc-le-suc, not-suc-le-zero, arith}
 use lib.Bits.{bit_and, bit_or}
-use Rattle.std.proofs.lemmas.Bool.{eqb-true, eqb-false, eq-eqb, ne_eqb, and_from, and_parts, or_left, or_right, or_cases, cases_Bool, both_ways}
+use Rattle.std.proofs.lemmas.Bool.{eqb-true, eqb-false, eq-eqb, and_from, and_parts, or_left, or_right, or_cases, cases_Bool, both_ways}
 use Rattle.part.specs.Sets.{bit}
 use Rattle.part.proofs.Bits.{bit-bit_or, bit-bit_and, bit_none, bit_below, bit_single, or_above, some_bit}
 use Rattle.port.specs.Upstream.{Closed, Smallest, upstream}
@@ -21,11 +21,14 @@ receives ps x = (get_or ps x no_sets).receivers
 abbrev pub one : ℕ → Port → ℕ → ℕ
 one m x w = cond (eqb (bit_and x.receivers m) 0) w (bit_or w (bit_or x.senders x.receivers))
 
-pub one_same : (m : ℕ) (x : Port) (w : ℕ) → bit_and x.receivers m ≡ 0 → one m x w ≡ w
-one_same m x w e = rw (eq-eqb (bit_and x.receivers m) 0 e)
-
-pub one_more : (m : ℕ) (x : Port) (w : ℕ) → (bit_and x.receivers m ≡ 0 → ⊥) → one m x w ≡ bit_or w (bit_or x.senders x.receivers)
-one_more m x w d = rw (ne_eqb (bit_and x.receivers m) 0 d)
+-- widening takes the ports that a member may receive from, one after another
+pub widen_folds : (m : ℕ) (ps : List Port) (w : ℕ) →
+    fold (λ (v : ℕ) (x : Port). bit_or v (bit_or x.senders x.receivers)) w (filter (λ x. not (eqb (bit_and x.receivers m) 0)) ps) ≡ widen m ps w
+widen_folds m [] w = refl
+widen_folds m (x ∷ ps) w = elim (cases_Bool (eqb (bit_and x.receivers m) 0)) [
+  | inl t ↦ rw t (widen_folds m ps w)
+  | inr f ↦ rw f (widen_folds m ps (bit_or w (bit_or x.senders x.receivers)))
+]
 
 cond_above : (b : Bool) (w s : ℕ) → w ≤ cond b w (bit_or w s)
 cond_above true w s = omega arith

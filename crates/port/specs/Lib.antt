@@ -1,3 +1,4 @@
 pub mod Upstream
 pub mod Sets
 pub mod Reach
+pub mod Texts

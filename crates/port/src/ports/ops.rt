@@ -25,6 +25,7 @@ impl Ports {
         ensures after { self.new.ports ≡ settled self.old.ports port senders receivers }
         ensures answer { result ≡ answered port }
     {
+        // An index, since what `get_mut` lends is not known to be the place that changes.
         if port >= PORTS {
             return Err(PortRefusal::Port);
         }
@@ -36,33 +37,29 @@ impl Ports {
     pub fn may_send(&self, port: u8, part: u8) -> bool
         ensures { result ≡ may_send parts self.now port part }
     {
-        if port >= PORTS || part >= PARTS {
-            return false;
-        }
-        contains(self.ports[port as usize].senders, part)
+        self.ports
+            .get(port as usize)
+            .is_some_and(|p| contains(p.senders, part))
     }
 
     // Whether the part may receive from the port.
     pub fn may_receive(&self, port: u8, part: u8) -> bool
         ensures { result ≡ may_receive parts self.now port part }
     {
-        if port >= PORTS || part >= PARTS {
-            return false;
-        }
-        contains(self.ports[port as usize].receivers, part)
+        self.ports
+            .get(port as usize)
+            .is_some_and(|p| contains(p.receivers, part))
     }
 
     // The set with the senders and receivers of every port that a member may receive from.
     fn widened(&self, set: Mask) -> Mask
         ensures { result ≡ widen set self.now.ports set }
     {
-        let mut wider = set;
-        for port in self.ports.iter() {
-            if port.receivers & set != 0 {
-                wider |= port.senders | port.receivers;
-            }
-        }
-        wider
+        self.ports
+            .iter()
+            .copied()
+            .filter(|p| p.receivers & set != 0)
+            .fold(set, |wider, p| wider | (p.senders | p.receivers))
     }
 
     // The parts upstream of a part; none for a part from PARTS on.
