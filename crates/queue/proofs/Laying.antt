@@ -1,13 +1,14 @@
 -- Values laid over the first places, and what a send and a receive make of all queues.
 -- Assumes nothing.
-use Rattle.std.proofs.Common.{◌≡◌, ℕ, ◌<◌, ◌≤◌, min, ◌⊎◌, List, [], ◌∷◌, ◌++◌, map, length, take, drop, sym, refl, ap, ◌∙◌, subst, ap₂, inl, inr, arith}
+use Rattle.std.proofs.Common.{◌≡◌, ℕ, ◌<◌, ◌≤◌, min, ◌⊎◌, List, [], ◌∷◌, ◌++◌, length, take, drop, sym, refl, ap, ◌∙◌, subst, ap₂, inl, inr, arith}
 use mathlib.Core.Path.{fun_ext}
-use Rattle.std.proofs.lemmas.List.{take_all, drop_all, take-take, take-map, take_at}
+use Rattle.std.proofs.lemmas.List.{take_all, drop_all, take_at, length-take-le}
 use Rattle.std.proofs.lemmas.Bool.{cases_eq, cases_lt, lt-ltb, eq-eqb, ne_eqb}
 use Rattle.queue.specs.Queue.{Queue, empty, appended, first, taken}
 use Rattle.queue.specs.declared.queues.Taken.{Taken}
 use Rattle.queue.specs.Runs.{Holds, last_eight}
-use Rattle.queue.specs.Ports.{sent, received, Sent, Received, laid, Given}
+use Rattle.queue.specs.Laid.{laid}
+use Rattle.queue.specs.Ports.{sent, received, Sent, Received, Given}
 use Rattle.queue.proofs.Runs.{holds_more, holds_taken}
 
 -- the first n, where n is cut to the length
@@ -29,14 +30,11 @@ laid_min vs ps n e = go (cases_lt (length ps) (length vs))
         let d : length vs ≡ n = omega arith in
         ap₂ ◌++◌ (take_all (length ps) vs h ∙ sym (take_all n vs (omega arith))) (ap (λ (i : ℕ). drop i ps) d)
 
-laid_whole : {X : Type 0} (vs ps : List X) (n : ℕ) → n ≡ min (length vs) (length ps) → length vs ≤ length ps → take n (laid vs ps) ≡ vs
-laid_whole vs ps n e h =
-    let d : length vs ≡ n = omega arith in
-    ap (take n) (ap (λ (xs : List _). xs ++ drop (length vs) ps) (take_all (length ps) vs h)) ∙ take_at vs (drop (length vs) ps) n d
-
--- the front of a message, as elements
-pub front_map : {W X : Type 0} (u : W → X) (ws : List W) (n k : ℕ) → n ≤ k → map u (take n ws) ≡ take n (map u (take k ws))
-front_map u ws n k h = sym (take-map u n (take k ws) ∙ ap (map u) (take-take n k ws h))
+-- what was laid, as far as there were places
+pub laid_front : {X : Type 0} (vs ps : List X) (n : ℕ) → n ≡ min (length vs) (length ps) → take n (laid vs ps) ≡ take (length ps) vs
+laid_front vs ps n e =
+    let l : length (take n vs) ≡ n = length-take-le n vs (omega arith) in
+    ap (take n) (laid_min vs ps n e) ∙ take_at (take n vs) (drop n ps) n l ∙ take_min vs n (length ps) e
 
 pub given : {E : Type 0} (q : Queue E) (before after : List E) (r : Taken) → after ≡ laid (first q.messages) before →
     r.count ≡ min (length (first q.messages)) (length before) → r.missed ≡ q.missed → length (first q.messages) ≤ 4 → Given q before after r
@@ -45,7 +43,7 @@ given q before after r p c m f = record {
   count = c;
   missed = m;
   few = f;
-  whole = λ h. ap (take r.count) p ∙ laid_whole (first q.messages) before r.count c (omega arith);
+  whole = λ h. ap (take r.count) p ∙ laid_front (first q.messages) before r.count c ∙ take_all (length before) (first q.messages) (omega arith);
 }
 
 -- no message: the places stay

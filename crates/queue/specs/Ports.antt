@@ -2,6 +2,7 @@
 use Rattle.std.specs.Prelude.{◌≡◌, ℕ, ◌<◌, ◌≤◌, min, cond, ◌&&◌, List, [], ◌∷◌, ◌++◌, length, take, drop, ◌==◌, nat_lt}
 use Rattle.queue.specs.Queue.{Queue, appended, first, taken}
 use Rattle.queue.specs.declared.queues.Taken.{Taken}
+use Rattle.queue.specs.Laid.{laid}
 use Rattle.queue.specs.Runs.{Holds, last_eight}
 
 -- a message of the first four values is appended at port x, if there is such a port; other queues stay
@@ -21,10 +22,6 @@ pub record Sent {E : Type 0} (o o' : ℕ → Queue E) (x : ℕ) (vs : List E) : 
 pub record Received {E : Type 0} (o o' : ℕ → Queue E) (x : ℕ) : Type 0 where
   pub after : o' ≡ received x o
   pub run : (ms : List (List E)) → Holds ms (o x) → Holds (drop 1 (last_eight ms)) (o' x)
-
--- values laid over the first places, as far as there are places; later places stay
-abbrev pub laid : {E : Type 0} → List E → List E → List E
-laid vs ps = take (length ps) vs ++ drop (length vs) ps
 
 -- what a receive gives from the queue q: the first message into the places, how many were written, and missed
 pub record Given {E : Type 0} (q : Queue E) (before after : List E) (r : Taken) : Type 0 where

@@ -3,5 +3,6 @@
 
 pub mod examples;
 pub mod message;
+mod places;
 pub mod port_queue;
 pub mod queues;

@@ -7,11 +7,11 @@ pub mod ops;
 // The most messages that a queue holds.
 pub const MESSAGES: usize = 8;
 
-// At most eight messages, the oldest first, and how many were missed.
+// At most eight messages, the oldest first, and how many were missed; an array and its length, as in a message.
 #[repr(C)]
 #[derive(Clone, Copy)]
 pub struct PortQueue {
-    items: [Message; 8],
+    items: [Message; MESSAGES],
     len: usize,
     missed: u8,
     ghost few: { len ≤ 8 },

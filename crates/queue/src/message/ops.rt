@@ -1,8 +1,9 @@
 ghost use Rattle.std.specs.Prelude.{◌≡◌, min, [], map, length, take};
 ghost use Rattle.queue.specs.Packed.{elements};
-ghost use Rattle.queue.specs.Ports.{laid};
+ghost use Rattle.queue.specs.Laid.{laid};
 
 use super::{ELEMENTS, Message};
+use crate::places::lay;
 use element::element::Element;
 use element::words::Words;
 
@@ -15,7 +16,7 @@ impl Message {
             words: [Words {
                 first: 0,
                 second: 0,
-            }; 4],
+            }; ELEMENTS],
             len: 0,
         }
     }
@@ -24,14 +25,8 @@ impl Message {
     pub(crate) fn of<E: Element>(values: &[E]) -> Message
         ensures { elements result ≡ map E.packed (take 4 values.now) }
     {
-        let len = values.len().min(ELEMENTS);
-        let mut words = [Words {
-            first: 0,
-            second: 0,
-        }; 4];
-        for i in 0..len {
-            words[i] = values[i].pack();
-        }
+        let mut words = Message::empty().words;
+        let len = lay(values, &mut words, E::pack);
         Message { words, len }
     }
 
@@ -40,10 +35,6 @@ impl Message {
         ensures places { places.new ≡ laid (map E.unpacked (elements self.now)) places.old }
         ensures count { result ≡ min (length (elements self.now)) (length places.old) }
     {
-        let count = self.len.min(places.len());
-        for i in 0..count {
-            places[i] = E::unpack(self.words[i]);
-        }
-        count
+        lay(&self.words[..self.len], places, |words| E::unpack(words))
     }
 }

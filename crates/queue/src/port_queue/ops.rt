@@ -4,13 +4,7 @@ ghost use Rattle.queue.specs.Queue.{appended, empty, first, taken};
 
 use super::{First, MESSAGES, PortQueue};
 use crate::message::Message;
-
-// One more, stopping at 255.
-fn one_more(missed: u8) -> u8
-    ensures { result ≡ min 255 (missed + 1) }
-{
-    missed.saturating_add(1)
-}
+use std::mem;
 
 impl PortQueue {
     // No messages, and none missed.
@@ -18,7 +12,7 @@ impl PortQueue {
         ensures { messages_of result ≡ empty }
     {
         PortQueue {
-            items: [Message::empty(); 8],
+            items: [Message::empty(); MESSAGES],
             len: 0,
             missed: 0,
         }
@@ -34,8 +28,8 @@ impl PortQueue {
             self.len = n + 1;
         } else {
             self.items.rotate_left(1);
-            self.items[7] = message;
-            self.missed = one_more(self.missed);
+            self.items[MESSAGES - 1] = message;
+            self.missed = self.missed.saturating_add(1);
         }
     }
 
@@ -45,15 +39,14 @@ impl PortQueue {
         ensures message { elements result.message ≡ first (messages_of self.old).messages }
         ensures missed { result.missed ≡ (messages_of self.old).missed }
     {
-        let missed = self.missed;
-        let message = self.items[0];
-        self.missed = 0;
+        let missed = mem::take(&mut self.missed);
         if self.len == 0 {
             return First {
                 message: Message::empty(),
                 missed,
             };
         }
+        let message = self.items[0];
         self.items.rotate_left(1);
         self.len -= 1;
         First { message, missed }

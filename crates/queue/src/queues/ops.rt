@@ -24,6 +24,7 @@ impl Queues {
         ensures sent { Sent (queue_at E.unpacked self.old) (queue_at E.unpacked self.new) port values.now }
         ensures run { LastEight E }
     {
+        // An index, since what `get_mut` lends is not known to be the place that changes.
         if port >= PORTS {
             return;
         }
@@ -37,6 +38,7 @@ impl Queues {
         ensures queues { Received (queue_at E.unpacked self.old) (queue_at E.unpacked self.new) port }
         ensures given { Given (queue_at E.unpacked self.old port) places.old places.new result }
     {
+        // An index, as above.
         if port >= PORTS {
             return Taken {
                 count: 0,

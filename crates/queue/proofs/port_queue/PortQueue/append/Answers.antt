@@ -1,4 +1,4 @@
-use Rattle.std.proofs.Common.{◌≡◌, ℕ, ◌<◌, ◌≤◌, List, [], ◌∷◌, ◌++◌, map, length, take, drop, set, sym, ap, ◌∙◌, ap₂, arith}
+use Rattle.std.proofs.Common.{◌≡◌, ℕ, ◌<◌, ◌≤◌, List, [], ◌∷◌, ◌++◌, map, length, take, drop, set, sym, ap, ◌∙◌, ap₂, arith, rules}
 use Rattle.queue.specs.Packed.{elements, messages_of}
 use Rattle.element.specs.declared.words.Words.{Words}
 use Rattle.queue.proofs.Front.{front_length, front_push, front_shift}
@@ -23,5 +23,5 @@ returns-else-n-lt-MESSAGES c =
     let l : 8 ≤ length (map elements (take q.len q.items)) = rw (front_length elements q.items q.len f') (omega arith) in
     let t : map elements (take q.len (set c.rotate_left.new.self 7 c.args.message)) ≡ drop 1 (map elements (take q.len q.items)) ++ elements c.args.message ∷ [] =
     rw (e, c.rotate_left.ensures.after) (front_shift elements q.items 7 c.args.message f) in
-    ap₂ (λ (ms : List (List Words)) (n : ℕ). record { messages = ms; missed = n }) t c.one_more-self.ensures
+    ap₂ (λ (ms : List (List Words)) (n : ℕ). record { messages = ms; missed = n }) t (search rules)
     ∙ sym (appended_full (elements c.args.message) (messages_of q) l)

@@ -3,7 +3,7 @@ use mathlib.Core.Path.{fun_ext}
 use Rattle.std.proofs.lemmas.List.{length-map, length-take}
 use Rattle.element.specs.declared.words.Words.{Words}
 use Rattle.queue.specs.Packed.{elements, packed_at, queue_at}
-use Rattle.queue.specs.Ports.{laid}
+use Rattle.queue.specs.Laid.{laid}
 use Rattle.queue.specs.Queue.{Queue, empty, first, taken}
 use Rattle.queue.proofs.Laying.{given, given_none, received_all, received_none}
 use Rattle.queue.proofs.Unpacked.{changed, first_unpacked, queue_at_lem, queue_past, unpacked_taken}
