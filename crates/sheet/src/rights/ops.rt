@@ -1,11 +1,10 @@
-ghost use Rattle.std.specs.Prelude.{◌≡◌, ◌<◌, MatchOption};
-ghost use Rattle.part.specs.Sets.{parts};
+ghost use Rattle.std.specs.Prelude.{◌≡◌, MatchOption};
 ghost use Rattle.sheet.specs.Modes.{Blocked, Widened};
 
 use super::Rights;
 use crate::mode::Mode;
 use part::row::is_exclusive;
-use part::set::single;
+use part::set::{Part, single};
 
 impl Rights {
     // No part may touch the cell.
@@ -17,11 +16,10 @@ impl Rights {
     }
 
     // The rights with the part's bits more; none where another part has a bit.
-    pub(crate) fn widened(self, part: u8, mode: Mode) -> Option<Rights>
-        requires { part < parts }
-        ensures { MatchOption result (Blocked self part mode) (Widened self part mode) }
+    pub(crate) fn widened(self, part: Part, mode: Mode) -> Option<Rights>
+        ensures { MatchOption result (Blocked self part.number mode) (Widened self part.number mode) }
     {
-        let bit = single(part);
+        let bit = single(part.number);
         let (read, write) = match mode {
             Mode::Both => (self.read | bit, self.write | bit),
             Mode::Read => (self.read | bit, self.write),

@@ -9,7 +9,7 @@ use super::{CELLS, Refused, SWAPS, Sheet};
 use crate::mode::Mode;
 use crate::refusal::Refusal;
 use crate::rights::Rights;
-use part::set::{PARTS, contains};
+use part::set::{PARTS, Part, contains};
 
 impl Sheet {
     // A sheet of that many cells with no bits and no swapped cells.
@@ -52,9 +52,7 @@ impl Sheet {
         if cell >= self.size {
             return Err(Refusal::Cell);
         }
-        if part >= PARTS {
-            return Err(Refusal::Part);
-        }
+        let part = Part::new(part).ok_or(Refusal::Part)?;
         let mode = Mode::try_from(mode)?;
         if self.is_swapped(cell) {
             return Err(Refusal::Taken);
