@@ -30,7 +30,7 @@ impl Element for Bit {
 
     fn pack(self) -> Words {
         Words {
-            first: if self.on { 1 } else { 0 },
+            first: u32::from(self.on),
             second: 0,
         }
     }

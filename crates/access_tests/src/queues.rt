@@ -7,12 +7,7 @@ const OFF: Bit = Bit { on: false };
 
 // A number of four bits.
 fn number(n: u8) -> [Bit; 4] {
-    [
-        Bit { on: n & 8 == 8 },
-        Bit { on: n & 4 == 4 },
-        Bit { on: n & 2 == 2 },
-        Bit { on: n & 1 == 1 },
-    ]
+    [8, 4, 2, 1].map(|bit| Bit { on: n & bit == bit })
 }
 
 #[test]

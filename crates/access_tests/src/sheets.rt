@@ -2,18 +2,12 @@ use sheet::sheet::{Refused, Sheet};
 
 // The sheet that a change gives back, changed or not.
 fn after(r: Result<Sheet, Refused>) -> Sheet {
-    match r {
-        Ok(sheet) => sheet,
-        Err(refused) => refused.sheet,
-    }
+    r.unwrap_or_else(|refused| refused.sheet)
 }
 
 // The number of a change's refusal, or 0.
 fn number(r: Result<Sheet, Refused>) -> u8 {
-    match r {
-        Ok(_) => 0,
-        Err(refused) => refused.why.number(),
-    }
+    r.err().map_or(0, |refused| refused.why.number())
 }
 
 // A sheet of four cells: part 7 has cell 3, and cell 2 is swapped.

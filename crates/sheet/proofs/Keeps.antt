@@ -1,7 +1,7 @@
 -- A change of one cell keeps what a sheet keeps.
 -- Assumes nothing.
-use Rattle.std.proofs.Common.{◌≡◌, ℕ, zero, suc, ◌+◌, ◌<◌, ◌≤◌, Bool, true, false, ◌&&◌, ◌||◌, ltb, ◌≢◌, List, length, get_or, take, set, replicate, sym, refl, ap, ◌∙◌, subst, inl, inr, arith}
-use Rattle.std.proofs.lemmas.List.{get_or-set_same, get_or-set_other, length-take-le}
+use Rattle.std.proofs.Common.{◌≡◌, ℕ, zero, suc, ◌+◌, ◌<◌, ◌≤◌, Bool, true, false, ◌&&◌, ◌||◌, ltb, ◌≢◌, List, [], ◌∷◌, length, get_or, take, set, map, sym, refl, ap, ◌∙◌, subst, inl, inr, arith}
+use Rattle.std.proofs.lemmas.List.{get_or-set_same, get_or-set_other, length-take-le, map-set}
 use Rattle.std.proofs.lemmas.Bool.{cases_eq, or_cases, or_left, or_right, both_ways}
 use Rattle.part.specs.Sets.{bit}
 use Rattle.part.specs.Rows.{exclusive}
@@ -9,31 +9,27 @@ use Rattle.part.proofs.Ones.{apart}
 use Rattle.cells.specs.Cells.{member}
 use Rattle.sheet.specs.Rows.{Rows, touchable}
 use Rattle.sheet.specs.Laws.{Kept}
-use Rattle.sheet.specs.Sound.{Exclusive, FrontZero, FrontWithin, FrontDistinct}
+use Rattle.sheet.specs.declared.rights.Rights.{Rights}
+use Rattle.sheet.specs.Sound.{reads, writes, FrontZero, FrontWithin, FrontDistinct}
 use Rattle.sheet.proofs.Members.{member_place, within_front, distinct_front}
-
-pub exclusive_set : (R W : List ℕ) (c r w : ℕ) → c < length R → c < length W → Exclusive R W → exclusive r w ≡ true → Exclusive (set R c r) (set W c w)
-exclusive_set R W c r w hr hw ex one k =
-    elim (cases_eq k c) [
-      | inl e ↦ subst (λ (x : ℕ). exclusive (get_or (set R c r) x 0) (get_or (set W c w) x 0) ≡ true) (sym e) (rw (get_or-set_same R c r 0 hr, get_or-set_same W c w 0 hw) one)
-      | inr d ↦ rw (get_or-set_other R c k r 0 d, get_or-set_other W c k w 0 d) (ex k)
-    ]
 
 pub zero_set : (R S : List ℕ) (n c r : ℕ) → ((i : ℕ) → i < n → get_or S i 0 ≡ c → ⊥) → FrontZero R S n → FrontZero (set R c r) S n
 zero_set R S n c r away z i h = get_or-set_other R c (get_or S i 0) r 0 (away i h) ∙ z i h
 
--- no bits at all
-get_or-zeros : (n c : ℕ) → ◌≡◌ {A = ℕ} (get_or (replicate n 0) c 0) 0
-get_or-zeros zero c = refl
-get_or-zeros (suc n) zero = refl
-get_or-zeros (suc n) (suc c) = get_or-zeros n c
+-- the same of one row of each cell's rights
+pub row_zero_set : (row : Rights → ℕ) (xs : List Rights) (S : List ℕ) (n c : ℕ) (r : Rights) → ((i : ℕ) → i < n → get_or S i 0 ≡ c → ⊥) →
+    FrontZero (map row xs) S n → FrontZero (map row (set xs c r)) S n
+row_zero_set row xs S n c r away z = rw (map-set row xs c r) (zero_set (map row xs) S n c (row r) away z)
 
+-- each cell's rows are exclusive, also beyond the last
 none : exclusive 0 0 ≡ true
 unfolding lib.Count.ones
 none = refl
 
-pub exclusive_none : (n : ℕ) → Exclusive (replicate n 0) (replicate n 0)
-exclusive_none n c = rw (get_or-zeros n c) none
+each_exclusive : (xs : List Rights) (c : ℕ) → exclusive (get_or (reads xs) c 0) (get_or (writes xs) c 0) ≡ true
+each_exclusive [] c = none
+each_exclusive (x ∷ xs) zero = x.exclusive
+each_exclusive (x ∷ xs) (suc c) = each_exclusive xs c
 
 module _ (S : List ℕ) (n c : ℕ) (fits : n < length S) where
   -- what holds of each swapped cell holds of one more
@@ -59,9 +55,9 @@ by_bit false m b e h = absurd (both_ways false refl h)
 by_bit true true b e h = absurd (both_ways true e refl)
 
 -- what holds of every sheet, from the facts in its type
-module _ (R W : List ℕ) (size : ℕ) (S : List ℕ) (n : ℕ) (fits : n ≤ length S) where
+module _ (xs : List Rights) (size : ℕ) (S : List ℕ) (n : ℕ) (fits : n ≤ length S) where
   abbrev rows : Rows
-  rows = record { read = R; write = W; size = size; swaps = take n S }
+  rows = record { read = reads xs; write = writes xs; size = size; swaps = take n S }
 
   zero_at : (P : List ℕ) → FrontZero P S n → (c : ℕ) → member (take n S) c ≡ true → get_or P c 0 ≡ 0
   zero_at P z c t = let r = member_place S n c t in ap (λ (k : ℕ). get_or P k 0) (sym r.2) ∙ z r.0 r.1
@@ -69,15 +65,17 @@ module _ (R W : List ℕ) (size : ℕ) (S : List ℕ) (n : ℕ) (fits : n ≤ le
   has_bit : (c : ℕ) (b : Bool) → member (take n S) c ≡ false → (ltb c size && (member (take n S) c || b)) ≡ true → b ≡ true
   has_bit c b = by_bit (ltb c size) (member (take n S) c) b
 
-  pub kept : n ≤ 16 → Exclusive R W → FrontWithin size S n → FrontZero R S n → FrontZero W S n → FrontDistinct S n → Kept rows
-  kept few ex below zr zw ds = record {
+  pub kept : n ≤ 16 → FrontWithin size S n → FrontZero (reads xs) S n → FrontZero (writes xs) S n → FrontDistinct S n → Kept rows
+  kept few below zr zw ds = record {
     apart = λ c p q f w t.
-        apart (get_or R c 0) (get_or W c 0) (ex c) p q (has_bit c (bit p (get_or W c 0)) f w)
+        let R = get_or (reads xs) c 0 in
+        let W = get_or (writes xs) c 0 in
+        apart R W (each_exclusive xs c) p q (has_bit c (bit p W) f w)
         (elim (or_cases (touchable rows false q c) (touchable rows true q c) t) [
-          | inl h ↦ or_left (bit q (get_or R c 0)) (bit q (get_or W c 0)) (has_bit c (bit q (get_or R c 0)) f h)
-          | inr h ↦ or_right (bit q (get_or R c 0)) (bit q (get_or W c 0)) (has_bit c (bit q (get_or W c 0)) f h)
+          | inl h ↦ or_left (bit q R) (bit q W) (has_bit c (bit q R) f h)
+          | inr h ↦ or_right (bit q R) (bit q W) (has_bit c (bit q W) f h)
         ]);
-    bare = λ c t. (zero_at R zr c t, zero_at W zw c t);
+    bare = λ c t. (zero_at (reads xs) zr c t, zero_at (writes xs) zw c t);
     few = rw (length-take-le n S fits) few;
     within = within_front S n size below fits;
     distinct = distinct_front S n fits ds;

@@ -1,20 +1,19 @@
 -- The front of a list of cells: who is in it, one place at a time.
 -- Assumes nothing.
-use Rattle.std.proofs.Common.{◌≡◌, ℕ, zero, suc, ◌+◌, ◌<◌, ◌≤◌, true, false, ◌||◌, eqb, List, [], ◌∷◌, length, get_or, take, drop, sym, ap, ◌∙◌, inl, inr, le_of_suc-le-suc, not-suc-le-zero, arith}
-use Rattle.std.proofs.lemmas.List.{drop_more, drop_all, get_or-take, length-take-le}
+use Rattle.std.proofs.Common.{◌≡◌, ℕ, zero, suc, ◌<◌, ◌≤◌, true, false, ◌||◌, eqb, List, [], ◌∷◌, length, get_or, take, sym, refl, ◌∙◌, ap₂, inl, inr, le_of_suc-le-suc, not-suc-le-zero, arith}
+use Rattle.std.proofs.lemmas.List.{get_or-take, length-take-le}
 use Rattle.std.proofs.lemmas.Bool.{eq-eqb, ne_eqb, cases_Bool, cases_eq, both_ways, or_left, or_right, false≢true}
+use Rattle.std.specs.List.{list_any}
 use Rattle.cells.specs.Cells.{member, Distinct, Within}
 use Rattle.sheet.specs.Sound.{FrontWithin, FrontDistinct}
 
-module _ (c : ℕ) (xs : List ℕ) (n : ℕ) (fits : n ≤ length xs) where
-  pub member_step : (i : ℕ) → i < n → member (drop i (take n xs)) c ≡ (eqb c (get_or xs i 0) || member (drop (i + 1) (take n xs)) c)
-  member_step i h =
-      let l : i < length (take n xs) = rw (length-take-le n xs fits) h in
-      ap (λ (ys : List ℕ). member ys c) (drop_more (take n xs) i 0 l) ∙ rw (get_or-take n xs i 0 h)
+-- the library's test for an element is that for a member
+same_test : (x c : ℕ) → eqb x c ≡ eqb c x
+same_test x c = elim (cases_eq x c) [ inl e ↦ rw e | inr d ↦ ne_eqb x c d ∙ sym (ne_eqb c x (λ e. d (sym e))) ]
 
-  pub member_end : (i : ℕ) → n ≤ i → member (drop i (take n xs)) c ≡ false
-  member_end i h =
-      let l : length (take n xs) ≤ i = rw (length-take-le n xs fits) h in ap (λ (ys : List ℕ). member ys c) (drop_all i (take n xs) l)
+pub member_any : (c : ℕ) (xs : List ℕ) → list_any (λ y. eqb y c) xs ≡ member xs c
+member_any c [] = refl
+member_any c (x ∷ xs) = ap₂ ◌||◌ (same_test x c) (member_any c xs)
 
 -- what stands in a list is a member
 pub member_at : (c : ℕ) (xs : List ℕ) (i : ℕ) → i < length xs → get_or xs i 0 ≡ c → member xs c ≡ true

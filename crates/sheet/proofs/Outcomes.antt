@@ -1,24 +1,17 @@
 -- Outcomes where the tests are known, and what refusal 16 means.
 -- Assumes nothing.
-use Rattle.std.proofs.Common.{◌≡◌, ℕ, ◌^◌, ◌<◌, ◌≤◌, Bool, true, false, cond, ◌&&◌, ◌||◌, eqb, ltb, ◌⊎◌, [], ◌∷◌, ◌++◌, length, refl, ap, ◌∙◌, subst, ap₂, inl, inr, arith}
+use Rattle.std.proofs.Common.{◌≡◌, ℕ, ◌^◌, ◌<◌, Bool, true, false, cond, ◌&&◌, ◌||◌, eqb, ltb, ◌⊎◌, set, sym, refl, ap, ◌∙◌, ap₂, inl, inr, arith}
 use lib.Bits.{bit_or}
-use Rattle.std.proofs.lemmas.Bool.{lt-ltb, le-ltb, eq-eqb, eqb-true, cases_Bool, true≢false}
+use Rattle.std.proofs.lemmas.Bool.{lt-ltb, eqb-true, cases_Bool, true≢false}
 use Rattle.part.specs.Sets.{bit}
 use Rattle.part.specs.Rows.{exclusive, holds, Another, OneMore}
 use Rattle.part.proofs.Bits.{bit-bit_or, bit_single}
 use Rattle.part.proofs.Ones.{one_more}
 use Rattle.cells.specs.Cells.{member}
+use Rattle.sheet.specs.declared.rights.Rights.{Rights}
 use Rattle.sheet.specs.Laws.{TakenIs16}
-use Rattle.sheet.specs.Rows.{Rows, read_row, write_row, blank, made, granted_read, granted_write, granted_rows, grant_number, granted, swapped}
-
-pub made_none : (n : ℕ) → n ≡ 0 → made n ≡ record { rows = blank 1; number = 14 }
-made_none n e = rw e
-
-pub made_over : (n : ℕ) → 512 < n → made n ≡ record { rows = blank 1; number = 14 }
-made_over n h = let p : 0 < n = omega arith in let o : 513 ≤ n = omega arith in rw (lt-ltb 0 n p, le-ltb n 513 o)
-
-pub made_of : (n : ℕ) → 0 < n → n ≤ 512 → made n ≡ record { rows = blank n; number = 0 }
-made_of n h k = let o : n < 513 = omega arith in rw (lt-ltb 0 n h, lt-ltb n 513 o)
+use Rattle.sheet.specs.View.{Gives}
+use Rattle.sheet.specs.Rows.{Rows, read_row, write_row, granted_read, granted_write, granted_rows, grant_number, granted}
 
 -- a grant's rows together have the bits they had, and that of its part
 with_bit : (r w b : Bool) → ((r || b) || w) ≡ ((r || w) || b)
@@ -83,18 +76,9 @@ taken_is_16 n s c p m = record {
     other hc hp hm a (inl d) = rw (lt-ltb c s.size hc, lt-ltb p n hp, lt-ltb m 4 hm, d)
     other hc hp hm a (inr f) = rw (lt-ltb c s.size hc, lt-ltb p n hp, lt-ltb m 4 hm, f, (grant_more s c p m).refused a)
 
--- a grant that is refused because of its rows, and one that is not
-module _ (n : ℕ) (s : Rows) (c p m : ℕ) (hc : c < s.size) (hp : p < n) (hm : m < 4) (f : member s.swaps c ≡ false) where
-  pub number_is : (x : Bool) → exclusive (granted_read s c p m) (granted_write s c p m) ≡ x → grant_number n s c p m ≡ cond x 0 16
-  number_is x e = rw (lt-ltb c s.size hc, lt-ltb p n hp, lt-ltb m 4 hm, f, e)
-
-  pub granted_is : (x : Bool) → exclusive (granted_read s c p m) (granted_write s c p m) ≡ x →
-      granted n s c p m ≡ record { rows = cond (eqb (cond x 0 16) 0) (granted_rows s c p m) s; number = cond x 0 16 }
-  granted_is x e = ap (λ (k : ℕ). record { rows = cond (eqb k 0) (granted_rows s c p m) s; number = k }) (number_is x e)
-
-  pub taken_by : (x : Bool) → exclusive (granted_read s c p m) (granted_write s c p m) ≡ x → TakenIs16 n s c p m (cond x 0 16)
-  taken_by x e = subst (λ (k : ℕ). TakenIs16 n s c p m k) (number_is x e) (taken_is_16 n s c p m)
-
-pub swapped_ok : (s : Rows) (c : ℕ) → c < s.size → member s.swaps c ≡ false → bit_or (read_row s c) (write_row s c) ≡ 0 → length s.swaps < 16 →
-    swapped s c ≡ record { rows = record { read = s.read; write = s.write; size = s.size; swaps = s.swaps ++ (c ∷ []) }; number = 0 }
-swapped_ok s c h m z l = rw (lt-ltb c s.size h, m, eq-eqb (bit_or (read_row s c) (write_row s c)) 0 z, lt-ltb (length s.swaps) 16 l)
+-- a grant that is allowed
+pub granted_is : (n : ℕ) (s : Rows) (c p m : ℕ) (r : Rights) → Gives n s c p m r →
+    granted n s c p m ≡ record { rows = record { read = set s.read c r.read; write = set s.write c r.write; size = s.size; swaps = s.swaps }; number = 0 }
+granted_is n s c p m r g =
+    ap (λ (k : ℕ). record { rows = cond (eqb k 0) (granted_rows s c p m) s; number = k }) g.number
+    ∙ ap₂ (λ (x y : ℕ). record { rows = record { read = set s.read c x; write = set s.write c y; size = s.size; swaps = s.swaps }; number = 0 }) (sym g.read) (sym g.write)

@@ -1,4 +1,6 @@
+pub mod Modes
 pub mod Sound
 pub mod Rows
+pub mod Texts
 pub mod View
 pub mod Laws

@@ -1,10 +1,13 @@
 -- What the arrays of a sheet keep. Assumes nothing.
-use Rattle.std.specs.Prelude.{◌≡◌, ℕ, ◌<◌, true, List, ◌≢◌, slice_index}
-use Rattle.part.specs.Rows.{exclusive}
+use Rattle.std.specs.Prelude.{◌≡◌, ℕ, ◌<◌, List, map, ◌≢◌, slice_index}
+use Rattle.sheet.specs.declared.rights.Rights.{Rights}
 
--- at each cell, the ones in both rows taken together number at most one
-abbrev pub Exclusive : List ℕ → List ℕ → Type 0
-Exclusive read write = (c : ℕ) → exclusive (slice_index read c) (slice_index write c) ≡ true
+-- the read row and the write row of each cell
+abbrev pub reads : List Rights → List ℕ
+reads rights = map (λ r. r.read) rights
+
+abbrev pub writes : List Rights → List ℕ
+writes rights = map (λ r. r.write) rights
 
 -- the first n swapped cells are below the size
 abbrev pub FrontWithin : ℕ → List ℕ → ℕ → Type 0

@@ -1,5 +1,8 @@
-ghost use Rattle.std.specs.Prelude.{◌≡◌};
+ghost use Rattle.std.specs.Prelude.{◌≡◌, Some};
+ghost use Rattle.sheet.specs.Texts.{sheet_text};
 ghost use Rattle.sheet.specs.View.{number_of};
+
+use std::fmt;
 
 // Why a sheet refuses; each has its number.
 #[derive(Clone, Copy, PartialEq, Eq, Debug)]
@@ -19,10 +22,26 @@ pub enum Refusal {
 }
 
 impl Refusal {
-    // The number of the refusal.
+    // The number of the refusal; a method, since `u8::from(why)` would not say what the number is.
     pub fn number(self) -> u8
         ensures { result ≡ number_of self }
     {
         self as u8
+    }
+}
+
+// The refusal in words.
+impl fmt::Display for Refusal {
+    ghost output = { λ r. Some (sheet_text r) };
+
+    fn fmt<W: fmt::Write>(&self, f: &mut fmt::Formatter<W>) -> fmt::Result {
+        f.write_str(match self {
+            Refusal::Part => "the part is over 7",
+            Refusal::Size => "the number of cells is 0 or over 512",
+            Refusal::Cell => "the cell is beyond the cells",
+            Refusal::Taken => "the cell is swapped, or a part has it",
+            Refusal::Full => "16 cells are swapped already",
+            Refusal::Mode => "the mode is over 3",
+        })
     }
 }

@@ -1,8 +1,8 @@
 ghost use Rattle.std.specs.Prelude.{◌<◌, ◌≤◌};
-ghost use Rattle.sheet.specs.Sound.{Exclusive, FrontWithin, FrontZero, FrontDistinct};
+ghost use Rattle.sheet.specs.Sound.{FrontWithin, FrontZero, FrontDistinct, reads, writes};
 
 use crate::refusal::Refusal;
-use part::set::Mask;
+use crate::rights::Rights;
 
 pub mod ops;
 
@@ -12,23 +12,21 @@ pub const CELLS: usize = 512;
 // How many cells may be swapped.
 pub const SWAPS: usize = 16;
 
-// The rows of the cells and the swapped cells. The facts stand in the type, so no sheet is without them: each cell's
-// rows are exclusive; swapped cells are distinct, below the size, and their rows are zero.
+// The rights on the cells, and the swapped cells: an array and its length, since C keeps a sheet in place. The facts stand
+// in the type, so no sheet is without them: swapped cells are distinct, below the size, and their rows are zero.
 #[repr(C)]
 #[derive(Clone, Copy)]
 pub struct Sheet {
-    read: [Mask; 512],
-    write: [Mask; 512],
+    rights: [Rights; CELLS],
     size: usize,
-    swapped: [usize; 16],
+    swapped: [usize; SWAPS],
     count: usize,
     ghost least: { 0 < size },
     ghost most: { size ≤ 512 },
     ghost few: { count ≤ 16 },
-    ghost exclusive: { Exclusive read write },
     ghost within: { FrontWithin size swapped count },
-    ghost unread: { FrontZero read swapped count },
-    ghost unwritten: { FrontZero write swapped count },
+    ghost unread: { FrontZero (reads rights) swapped count },
+    ghost unwritten: { FrontZero (writes rights) swapped count },
     ghost distinct: { FrontDistinct swapped count },
 }
 

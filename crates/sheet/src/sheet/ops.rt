@@ -1,25 +1,15 @@
-ghost use Rattle.std.specs.Prelude.{◌≡◌, ◌^◌, ◌<◌, ◌≤◌, ◌&&◌, length, if◌then◌else◌, bit_or, nat_lt, slice_index};
+ghost use Rattle.std.specs.Prelude.{◌≡◌, ◌<◌, ◌≤◌, ◌&&◌, length, nat_lt};
 ghost use Rattle.part.specs.Sets.{parts};
 ghost use Rattle.cells.specs.Cells.{member, Within, Distinct};
 ghost use Rattle.sheet.specs.Laws.{Kept, TakenIs16};
 ghost use Rattle.sheet.specs.Rows.{blank, granted, made, swapped, touchable};
-ghost use Rattle.sheet.specs.View.{outcome, rows_of};
+ghost use Rattle.sheet.specs.View.{Granting, Swapping, outcome, rows_of};
 
 use super::{CELLS, Refused, SWAPS, Sheet};
+use crate::mode::Mode;
 use crate::refusal::Refusal;
-use part::row::is_exclusive;
-use part::set::{Mask, PARTS, contains, single};
-
-// The row with the part's bit more, unless it is to stay.
-fn with_bit(row: Mask, part: u8, stays: bool) -> Mask
-    requires { part < parts }
-    ensures { result ≡ (if stays then row else bit_or row (2 ^ part)) }
-{
-    if stays {
-        return row;
-    }
-    row | single(part)
-}
+use crate::rights::Rights;
+use part::set::{PARTS, Part, contains};
 
 impl Sheet {
     // A sheet of that many cells with no bits and no swapped cells.
@@ -28,10 +18,9 @@ impl Sheet {
         ensures { rows_of result ≡ blank size }
     {
         Sheet {
-            read: [0; 512],
-            write: [0; 512],
+            rights: [Rights::none(); CELLS],
             size,
-            swapped: [0; 16],
+            swapped: [0; SWAPS],
             count: 0,
         }
     }
@@ -53,12 +42,22 @@ impl Sheet {
     fn is_swapped(&self, cell: usize) -> bool
         ensures { result ≡ member (rows_of self.now).swaps cell }
     {
-        for i in 0..self.count {
-            if self.swapped[i] == cell {
-                return true;
-            }
+        self.swaps().contains(&cell)
+    }
+
+    // The rights on the cell once the part's bits are added, or why they are not.
+    fn granting(&self, cell: usize, part: u8, mode: u8) -> Result<Rights, Refusal>
+        ensures { Granting parts (rows_of self.now) cell part mode result }
+    {
+        if cell >= self.size {
+            return Err(Refusal::Cell);
         }
-        false
+        let part = Part::new(part).ok_or(Refusal::Part)?;
+        let mode = Mode::try_from(mode)?;
+        if self.is_swapped(cell) {
+            return Err(Refusal::Taken);
+        }
+        self.rights[cell].widened(part, mode).ok_or(Refusal::Taken)
     }
 
     // Adds the part's bits to the cell's rows: mode 1 reads, 2 writes, 0 and 3 do both.
@@ -66,76 +65,46 @@ impl Sheet {
         ensures after { outcome result ≡ granted parts (rows_of self) cell part mode }
         ensures taken { TakenIs16 parts (rows_of self) cell part mode (outcome result).number }
     {
+        match self.granting(cell, part, mode) {
+            Ok(rights) => {
+                let mut sheet = self;
+                sheet.rights[cell] = rights;
+                Ok(sheet)
+            }
+            Err(why) => Err(Refused { sheet: self, why }),
+        }
+    }
+
+    // Whether the cell may become a swapped one, or why not.
+    fn swapping(&self, cell: usize) -> Result<(), Refusal>
+        ensures { Swapping (rows_of self.now) cell result }
+    {
         if cell >= self.size {
-            return Err(Refused {
-                sheet: self,
-                why: Refusal::Cell,
-            });
+            return Err(Refusal::Cell);
         }
-        if part >= PARTS {
-            return Err(Refused {
-                sheet: self,
-                why: Refusal::Part,
-            });
+        let rights = self.rights[cell];
+        if self.is_swapped(cell) || rights.read | rights.write != 0 {
+            return Err(Refusal::Taken);
         }
-        if mode > 3 {
-            return Err(Refused {
-                sheet: self,
-                why: Refusal::Mode,
-            });
+        if self.count >= SWAPS {
+            return Err(Refusal::Full);
         }
-        if self.is_swapped(cell) {
-            return Err(Refused {
-                sheet: self,
-                why: Refusal::Taken,
-            });
-        }
-        let read = with_bit(self.read[cell], part, mode == 2);
-        let write = with_bit(self.write[cell], part, mode == 1);
-        if !is_exclusive(read, write) {
-            return Err(Refused {
-                sheet: self,
-                why: Refusal::Taken,
-            });
-        }
-        let mut sheet = self;
-        sheet.read[cell] = read;
-        sheet.write[cell] = write;
-        Ok(sheet)
+        Ok(())
     }
 
     // Makes the cell a swapped one, behind those that are.
     pub fn swap(self, cell: usize) -> Result<Sheet, Refused>
         ensures { outcome result ≡ swapped (rows_of self) cell }
     {
-        if cell >= self.size {
-            return Err(Refused {
-                sheet: self,
-                why: Refusal::Cell,
-            });
+        match self.swapping(cell) {
+            Ok(()) => {
+                let mut sheet = self;
+                sheet.swapped[sheet.count] = cell;
+                sheet.count += 1;
+                Ok(sheet)
+            }
+            Err(why) => Err(Refused { sheet: self, why }),
         }
-        if self.is_swapped(cell) {
-            return Err(Refused {
-                sheet: self,
-                why: Refusal::Taken,
-            });
-        }
-        if self.read[cell] | self.write[cell] != 0 {
-            return Err(Refused {
-                sheet: self,
-                why: Refusal::Taken,
-            });
-        }
-        if self.count >= SWAPS {
-            return Err(Refused {
-                sheet: self,
-                why: Refusal::Full,
-            });
-        }
-        let mut sheet = self;
-        sheet.swapped[sheet.count] = cell;
-        sheet.count += 1;
-        Ok(sheet)
     }
 
     // How many cells the sheet is for.
@@ -154,19 +123,7 @@ impl Sheet {
         ensures distinct { Distinct result.now }
         ensures kept { Kept (rows_of self.now) }
     {
-        &self.swapped[0..self.count]
-    }
-
-    // The write row of a cell, or its read row.
-    fn row(&self, cell: usize, writing: bool) -> Mask
-        requires { cell < self.now.size }
-        ensures { result ≡ slice_index (if writing then self.now.write else self.now.read) cell }
-    {
-        if writing {
-            self.write[cell]
-        } else {
-            self.read[cell]
-        }
+        &self.swapped[..self.count]
     }
 
     // Whether the part may write the cell, or read it, while it has the turn; no part from PARTS on may.
@@ -176,6 +133,8 @@ impl Sheet {
         if part >= PARTS || cell >= self.size {
             return false;
         }
-        contains(self.row(cell, writing), part) || self.is_swapped(cell)
+        let rights = self.rights[cell];
+        let row = if writing { rights.write } else { rights.read };
+        contains(row, part) || self.is_swapped(cell)
     }
 }

@@ -1,53 +1,42 @@
-use Rattle.std.proofs.Common.{◌≡◌, ℕ, ◌<◌, ◌≤◌, true, false, length, set, sym, ◌∙◌, ap₂, arith}
-use Rattle.part.specs.Rows.{exclusive}
-use Rattle.sheet.specs.Rows.{granted_read, granted_write}
+use Rattle.std.proofs.Common.{ℕ, ◌≤◌, List, length, sym, ◌∙◌, ap₂, subst, arith}
+use Rattle.std.proofs.lemmas.List.{map-set}
+use Rattle.sheet.specs.declared.rights.Rights.{Rights}
+use Rattle.sheet.specs.Laws.{TakenIs16}
 use Rattle.sheet.specs.View.{rows_of}
 use Rattle.sheet.proofs.Members.{member_none}
-use Rattle.sheet.proofs.Keeps.{exclusive_set, zero_set}
-use Rattle.sheet.proofs.Outcomes.{granted_is, taken_by}
+use Rattle.sheet.proofs.Keeps.{row_zero_set}
+use Rattle.sheet.proofs.Outcomes.{granted_is, taken_is_16}
 use Rattle.sheet.proofs.sheet.Sheet.grant.Goals as goal
-
-pub returns-then-not-is_exclusive : goal.returns-then-not-is_exclusive
-returns-then-not-is_exclusive c =
-    let s = rows_of c.args.self in
-    let f = sym c.if-is_swapped.ensures in
-    let e : exclusive (granted_read s c.args.cell c.args.part c.args.mode) (granted_write s c.args.cell c.args.part c.args.mode) ≡ false =
-    ap₂ exclusive (sym c.with_bit-read.ensures) (sym c.with_bit-write.ensures) ∙ sym c.if-not-is_exclusive.ensures.value in
-    record {
-      after = sym (granted_is 8 s c.args.cell c.args.part c.args.mode (omega arith) (omega arith) (omega arith) f false e);
-      taken = taken_by 8 s c.args.cell c.args.part c.args.mode (omega arith) (omega arith) (omega arith) f false e;
-    }
 
 pub invariant_of-sheet : goal.invariant_of-sheet
 invariant_of-sheet c =
     let s = c.args.self in
-    let r = c.with_bit-read.result in
-    let w = c.with_bit-write.result in
-    let hr : c.args.cell < length s.read = omega arith in
-    let hw : c.args.cell < length s.write = omega arith in
     let f : s.count ≤ length s.swapped = omega arith in
-    let away = member_none c.args.cell s.swapped s.count f (sym c.if-is_swapped.ensures) in
+    let away = member_none c.args.cell s.swapped s.count f c.in-Ok.ensures.free in
     record {
       least = s.least;
       most = s.most;
       few = s.few;
-      exclusive = exclusive_set s.read s.write c.args.cell r w hr hw s.exclusive (sym c.if-not-is_exclusive.ensures.value);
       within = s.within;
-      unread = zero_set s.read s.swapped s.count c.args.cell r away s.unread;
-      unwritten = zero_set s.write s.swapped s.count c.args.cell w away s.unwritten;
+      unread = row_zero_set (λ r. r.read) s.rights s.swapped s.count c.args.cell c.in-Ok.rights away s.unread;
+      unwritten = row_zero_set (λ r. r.write) s.rights s.swapped s.count c.args.cell c.in-Ok.rights away s.unwritten;
       distinct = s.distinct;
     }
 
-pub returns : goal.returns
-returns c =
-    let s = rows_of c.args.self in
-    let f = sym c.if-is_swapped.ensures in
-    let e : exclusive (granted_read s c.args.cell c.args.part c.args.mode) (granted_write s c.args.cell c.args.part c.args.mode) ≡ true =
-    ap₂ exclusive (sym c.with_bit-read.ensures) (sym c.with_bit-write.ensures) ∙ sym c.if-not-is_exclusive.ensures.value in
+pub returns-in-Ok : goal.returns-in-Ok
+returns-in-Ok c =
+    let s = c.args.self in
+    let t = rows_of s in
+    let x = c.args.cell in
+    let r = c.in-Ok.rights in
     record {
-      after =
-          ap₂ (λ (r w : ℕ). record { rows = record { read = set s.read c.args.cell r; write = set s.write c.args.cell w; size = s.size; swaps = s.swaps }; number = 0 })
-          c.with_bit-read.ensures c.with_bit-write.ensures
-          ∙ sym (granted_is 8 s c.args.cell c.args.part c.args.mode (omega arith) (omega arith) (omega arith) f true e);
-      taken = taken_by 8 s c.args.cell c.args.part c.args.mode (omega arith) (omega arith) (omega arith) f true e;
+      after = ap₂ (λ (xs ys : List ℕ). record { rows = record { read = xs; write = ys; size = t.size; swaps = t.swaps }; number = 0 })
+          (map-set (λ (r : Rights). r.read) s.rights x r) (map-set (λ (r : Rights). r.write) s.rights x r)
+          ∙ sym (granted_is 8 t x c.args.part c.args.mode r c.in-Ok.ensures);
+      taken = subst (λ (k : ℕ). TakenIs16 8 t x c.args.part c.args.mode k) c.in-Ok.ensures.number (taken_is_16 8 t x c.args.part c.args.mode);
     }
+
+pub returns-in-Err-clause-taken : goal.returns-in-Err-clause-taken
+returns-in-Err-clause-taken c =
+    let t = rows_of c.args.self in
+    subst (λ (k : ℕ). TakenIs16 8 t c.args.cell c.args.part c.args.mode k) (sym c.in-Err.ensures) (taken_is_16 8 t c.args.cell c.args.part c.args.mode)
