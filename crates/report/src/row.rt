@@ -1,4 +1,6 @@
 // The table of a run: one row a command.
+ghost use Rattle.report.specs.Rows.{row_text};
+
 use crate::outcome::Outcome;
 use command::kind::Kind;
 use command::log::LogRecord;
@@ -16,6 +18,8 @@ pub struct Row<'a, E> {
 
 // Place, part, command, and the answer: the refusal with its reason, or what was missed and the values.
 impl<'a, E: Element + fmt::Display> fmt::Display for Row<'a, E> {
+    ghost output = { λ r. row_text E.Display.output E.Element.unpacked r.logged.now };
+
     fn fmt<W: fmt::Write>(&self, f: &mut fmt::Formatter<W>) -> fmt::Result {
         let r = self.logged;
         let place = r.place;

@@ -20,9 +20,9 @@ ended ys zs rest (suc n) none whole = sym (append-nil ys) ∙ ap (λ l. ys ++ ta
 pub loop-n-preserved : goal.loop-n-preserved
 loop-n-preserved g c = (
   λ p.
-    let so_far = c.loop-n.invariant.0 p in
-    has_written_of_eq _ _ _ _ _ (flat_map_more number_text c.args.self.now.word.now c.loop-n.yielded c.in-Some.n)
-    (has_written_append _ _ _ _ _ _ so_far (c.write.ensures.writes so_far.plain (search rules))),
+      let so_far = c.loop-n.invariant.0 p in
+      has_written_of_eq _ _ _ _ _ (flat_map_more number_text c.args.self.now.word.now c.loop-n.yielded c.in-Some.n)
+      (has_written_append _ _ _ _ _ _ so_far (c.write.ensures.writes so_far.plain (search rules))),
   onward c.loop-n.yielded _ _ _ _ _ c.in-Some.n c.in-Some.ensures.steps.0 c.in-Some.ensures.steps.1 c.loop-n.invariant.1,
 )
 
