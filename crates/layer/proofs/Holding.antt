@@ -1,12 +1,15 @@
-use Rattle.std.proofs.Common.{◌≡◌, ℕ, zero, suc, ◌+◌, ◌-◌, ◌<◌, ◌≤◌, true, false, not, eqb, List, [], ◌∷◌, ◌++◌, length, get_or, take, drop, set, Some, None, Ok, sym, refl, ap, ◌∙◌, inl, inr, arith, length-set, length-take}
+use Rattle.std.proofs.Common.{◌≡◌, ℕ, zero, suc, ◌+◌, ◌-◌, ◌<◌, ◌≤◌, Bool, true, false, not, eqb, ◌≢◌, List, [], ◌∷◌, ◌++◌, length, get_or, take, drop, set, Some, None, Option, Ok, sym, refl, ap, ◌∙◌, subst, inl, inr, arith, length-set, length-take}
 use Rattle.element.specs.Pairs.{pair}
 use Rattle.element.specs.declared.words.Words.{Words}
-use Rattle.std.proofs.lemmas.List.{take_more_set, take-append-le, set-set, set_comm}
+use Rattle.std.proofs.lemmas.List.{take_more_set, take_all, take-append-le, set-set, set_comm}
 use Rattle.std.proofs.lemmas.Bool.{and_parts, and_from, and_left, and_right, eqb-true, eqb-false, eq-eqb, ne_eqb, not-true, not_from_true, not_from_false, cond_both, cond-true, cond-false, cases_eq}
+use Rattle.std.specs.Option.{is_some}
+use Rattle.std.specs.List.{position, position_from, refill}
+use Rattle.std.proofs.lemmas.Iterator.Adapters.{position_from-zero}
 use Rattle.store.specs.Meaning.{element}
 use Rattle.store.proofs.Within.{element_set_same, element_set_other}
 use Rattle.layer.specs.declared.held_write.HeldWrite.{HeldWrite}
-use Rattle.layer.specs.Holds.{absent, apart, HeldAt, held_for, placed, laid}
+use Rattle.layer.specs.Holds.{absent, apart, held_for, placed, seventeenth, laid}
 
 -- the tests, as facts
 pub absent_parts : (n : ℕ) (e : HeldWrite) (es : List HeldWrite) → absent n (e ∷ es) ≡ true → (e.cell ≡ n → ⊥) × (absent n es ≡ true)
@@ -24,12 +27,43 @@ absent_push n [] e h ne = absent_from n e [] ne refl
 absent_push n (x ∷ es) e h ne =
     let p = absent_parts n x es h in absent_from n x (es ++ e ∷ []) p.0 (absent_push n es e p.1 ne)
 
+-- the first write to cell n is at place i
+abbrev pub HeldAt : ℕ → ℕ → List HeldWrite → Type 0
+HeldAt n i [] = ⊥
+HeldAt n zero (w ∷ ws) = w.cell ≡ n
+HeldAt n (suc i) (w ∷ ws) = (w.cell ≢ n) × HeldAt n i ws
+
 -- what a search finds
-pub held_at_from : (n i : ℕ) (es : List HeldWrite) (d : HeldWrite) → absent n (take i es) ≡ true → i < length es → (get_or es i d).cell ≡ n → HeldAt n i es
-held_at_from n i [] d a h q = absurd (omega arith)
-held_at_from n zero (e ∷ es) d a h q = q
-held_at_from n (suc i) (e ∷ es) d a h q =
-    let p = absent_parts n e (take i es) a in (p.0, held_at_from n i es d p.1 (omega arith) q)
+search_none : (n k : ℕ) (es : List HeldWrite) → position_from (λ (w : HeldWrite). eqb w.cell n) k es ≡ None → absent n es ≡ true
+search_none n k [] q = refl
+search_none n k (e ∷ es) q =
+    elim (cases_eq e.cell n) [
+      | inl h ↦ (let s : Some k ≡ None = sym (cond-true (eqb e.cell n) _ _ (eq-eqb e.cell n h)) ∙ q in
+          let z : ◌≡◌ {A = ℕ} 0 1 = cc in absurd (omega arith))
+      | inr h ↦ absent_from n e es h (search_none n (k + 1) es (sym (cond-false (eqb e.cell n) _ _ (ne_eqb e.cell n h)) ∙ q))
+    ]
+
+search_some : (n k i : ℕ) (es : List HeldWrite) → position_from (λ (w : HeldWrite). eqb w.cell n) k es ≡ Some i → (k ≤ i) × HeldAt n (i - k) es
+search_some n k i [] q = let z : ◌≡◌ {A = ℕ} 0 1 = cc in absurd (omega arith)
+search_some n k i (e ∷ es) q =
+    elim (cases_eq e.cell n) [
+      | inl h ↦ (let s : Some k ≡ Some i = sym (cond-true (eqb e.cell n) _ _ (eq-eqb e.cell n h)) ∙ q in
+          let w : k ≡ i = cc in
+          let v : 0 ≡ i - k = omega arith in
+          (omega arith, subst (λ (j : ℕ). HeldAt n j (e ∷ es)) v h))
+      | inr h ↦ (let p = search_some n (k + 1) i es (sym (cond-false (eqb e.cell n) _ _ (ne_eqb e.cell n h)) ∙ q) in
+          let l : k + 1 ≤ i = p.0 in
+          let v : suc (i - (k + 1)) ≡ i - k = omega arith in
+          (omega arith, subst (λ (j : ℕ). HeldAt n j (e ∷ es)) v (h, p.1)))
+    ]
+
+pub held_found : (n i : ℕ) (es : List HeldWrite) → Some i ≡ position (λ (w : HeldWrite). eqb w.cell n) es → HeldAt n i es
+held_found n i es q =
+    let v : i - 0 ≡ i = omega arith in
+    subst (λ (j : ℕ). HeldAt n j es) v (search_some n 0 i es (sym (position_from-zero (λ (w : HeldWrite). eqb w.cell n) es) ∙ sym q)).1
+
+pub held_missed : (n : ℕ) (es : List HeldWrite) → None ≡ position (λ (w : HeldWrite). eqb w.cell n) es → absent n es ≡ true
+held_missed n es q = search_none n 0 es (sym (position_from-zero (λ (w : HeldWrite). eqb w.cell n) es) ∙ sym q)
 
 pub held_at_less : (n i : ℕ) (es : List HeldWrite) → HeldAt n i es → i < length es
 held_at_less n i [] h = absurd h
@@ -46,6 +80,14 @@ placed_at n (suc i) (x ∷ es) e h q =
     cond_both (eqb x.cell e.cell) (e ∷ es) (x ∷ placed es e) (λ l. l ≡ x ∷ set es i e)
     (λ t. absurd (h.0 (eqb-true x.cell e.cell t ∙ q)))
     (λ _. ap (λ l. x ∷ l) (placed_at n i es e h.1 q))
+
+-- the same through a lent slice, which gives the list back at its length
+pub placed_lent : (n i : ℕ) (es ds : List HeldWrite) (e : HeldWrite) → HeldAt n i es → e.cell ≡ n → ds ≡ es → refill (length es) es (set ds i e) ≡ placed es e
+placed_lent n i es ds e h q d =
+    let m : length (set ds i e) ≡ length es = length-set ds i e ∙ ap length d in
+    take-append-le (length es) (set ds i e) (drop (length (set ds i e)) es) (omega arith)
+    ∙ (take_all (length es) (set ds i e) (omega arith)
+    ∙ (ap (λ (xs : List HeldWrite). set xs i e) d ∙ sym (placed_at n i es e h q)))
 
 pub placed_new : (es : List HeldWrite) (e : HeldWrite) → absent e.cell es ≡ true → placed es e ≡ es ++ e ∷ []
 placed_new [] e h = refl
@@ -135,6 +177,14 @@ pub held_not_absent : (n i : ℕ) (es : List HeldWrite) → HeldAt n i es → ab
 held_not_absent n i [] h = absurd h
 held_not_absent n zero (e ∷ es) h = and_left _ _ (not_from_true _ (eq-eqb e.cell n h))
 held_not_absent n (suc i) (e ∷ es) h = and_right _ _ (held_not_absent n i es h.1)
+
+-- in a full table a search misses exactly the seventeenth cells
+pub search_misses : (n : ℕ) (es : List HeldWrite) (o : Option ℕ) (r : Bool) → o ≡ position (λ (w : HeldWrite). eqb w.cell n) es → is_some o ≡ not r →
+    true ≡ eqb (length es) 16 → r ≡ seventeenth n es
+search_misses n es None true h e q = rw (held_missed n es h, ← q) refl
+search_misses n es None false h e q = let z : ◌≡◌ {A = ℕ} 0 1 = cc in absurd (omega arith)
+search_misses n es (Some i) true h e q = let z : ◌≡◌ {A = ℕ} 0 1 = cc in absurd (omega arith)
+search_misses n es (Some i) false h e q = rw (held_not_absent n i es (held_found n i es h)) refl
 
 pub held_for_at : (n i : ℕ) (es : List HeldWrite) (d : HeldWrite) → HeldAt n i es → held_for n es ≡ Some (get_or es i d).words
 held_for_at n i [] d h = absurd h

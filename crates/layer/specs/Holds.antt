@@ -1,5 +1,5 @@
 -- Lists of held writes, the longest-held first. Assumes nothing.
-use Rattle.std.specs.Prelude.{◌≡◌, ℕ, zero, suc, Bool, true, cond, not, ◌&&◌, List, [], ◌∷◌, length, Some, None, Option, ◌==◌, ◌≢◌, slice_set}
+use Rattle.std.specs.Prelude.{ℕ, Bool, true, cond, not, ◌&&◌, List, [], ◌∷◌, length, Some, None, Option, ◌==◌, slice_set}
 use Rattle.element.specs.declared.words.Words.{Words}
 use Rattle.layer.specs.declared.held_write.HeldWrite.{HeldWrite}
 
@@ -12,12 +12,6 @@ absent n (w ∷ ws) = not (w.cell == n) && absent n ws
 abbrev pub apart : List HeldWrite → Bool
 apart [] = true
 apart (w ∷ ws) = absent w.cell ws && apart ws
-
--- the first write to cell n is at place i
-abbrev pub HeldAt : ℕ → ℕ → List HeldWrite → Type 0
-HeldAt n i [] = ⊥
-HeldAt n zero (w ∷ ws) = w.cell ≡ n
-HeldAt n (suc i) (w ∷ ws) = (w.cell ≢ n) × HeldAt n i ws
 
 -- what is held for cell n
 abbrev pub held_for : ℕ → List HeldWrite → Option Words

@@ -1,16 +1,15 @@
-ghost use Rattle.std.specs.Prelude.{◌≡◌, ◌≤◌, true, length, take};
+ghost use Rattle.std.specs.Prelude.{◌≡◌, ◌≤◌, true, length};
 ghost use Rattle.layer.specs.Holds.{apart};
 
 use crate::held_write::HeldWrite;
+use arrayvec::ArrayVec;
 
 // The held writes, the longest-held first: at most 16, and no cell twice.
-#[derive(Clone, Copy)]
+#[derive(Drop)]
 pub struct Table {
-    writes: [HeldWrite; 16],
-    count: usize,
-    ghost whole: { length writes ≡ 16 },
-    ghost few: { count ≤ 16 },
-    ghost distinct: { apart (take count writes) ≡ true },
+    writes: ArrayVec<HeldWrite, 16>,
+    ghost few: { length writes.items ≤ 16 },
+    ghost distinct: { apart writes.items ≡ true },
 }
 
 mod ops;

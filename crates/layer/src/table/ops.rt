@@ -1,38 +1,19 @@
-ghost use Rattle.std.specs.Prelude.{◌≡◌, ◌<◌, true, [], ◌∷◌, length, MatchOption};
-ghost use Rattle.layer.specs.Holds.{absent, seventeenth, HeldAt, held_for, placed};
+ghost use Rattle.std.specs.Prelude.{◌≡◌, ◌<◌, true, [], ◌∷◌, ◌==◌, length, position};
+ghost use Rattle.layer.specs.Holds.{absent, seventeenth, held_for, placed};
 ghost use Rattle.layer.specs.Layers.{held_in};
 
 use super::Table;
 use crate::held_write::HeldWrite;
+use arrayvec::ArrayVec;
 use element::words::Words;
-
-// Where cell n is held, or None.
-fn find_in(writes: &[HeldWrite], n: usize) -> Option<usize>
-    ensures { MatchOption result (absent n writes.now ≡ true) (λ i. HeldAt n i writes.now) }
-{
-    for (i, w) in writes.iter().enumerate() {
-        if w.cell == n {
-            return Some(i);
-        }
-    }
-    None
-}
 
 impl Table {
     // A table of none.
     pub(crate) fn new() -> Table
         ensures { held_in result ≡ [] }
     {
-        let none = HeldWrite {
-            cell: 0,
-            words: Words {
-                first: 0,
-                second: 0,
-            },
-        };
         Table {
-            writes: [none; 16],
-            count: 0,
+            writes: ArrayVec::new(),
         }
     }
 
@@ -40,54 +21,29 @@ impl Table {
     pub(crate) fn len(&self) -> usize
         ensures { result ≡ length (held_in self.now) }
     {
-        self.count
+        self.writes.len()
     }
 
+    // Where cell n is held, or None.
     fn find(&self, n: usize) -> Option<usize>
-        ensures { MatchOption result (absent n (held_in self.now) ≡ true) (λ i. HeldAt n i (held_in self.now)) }
+        ensures { result ≡ position (λ w. w.cell == n) (held_in self.now) }
     {
-        find_in(&self.writes[0..self.count], n)
+        self.writes.iter().position(|w| w.cell == n)
     }
 
     // Whether cell n would be a seventeenth.
     pub(crate) fn is_full_for(&self, n: usize) -> bool
         ensures { result ≡ seventeenth n (held_in self.now) }
     {
-        match self.find(n) {
-            Some(_) => false,
-            None => self.count == 16,
-        }
+        self.writes.is_full() && self.find(n).is_none()
     }
 
     // What is held for cell n.
     pub(crate) fn words_of(&self, n: usize) -> Option<Words>
         ensures { result ≡ held_for n (held_in self.now) }
     {
-        match self.find(n) {
-            Some(i) => {
-                let w = self.writes[i];
-                Some(w.words)
-            }
-            None => None,
-        }
-    }
-
-    // Holds w in the place of its cell's write.
-    fn rewrite(&mut self, i: usize, w: HeldWrite)
-        requires { HeldAt w.cell i (held_in self.old) }
-        ensures { held_in self.new ≡ placed (held_in self.old) w }
-    {
-        self.writes[i] = w;
-    }
-
-    // Holds w as the newest.
-    fn append(&mut self, w: HeldWrite)
-        requires absent { absent w.cell (held_in self.old) ≡ true }
-        requires room { length (held_in self.old) < 16 }
-        ensures { held_in self.new ≡ placed (held_in self.old) w }
-    {
-        self.writes[self.count] = w;
-        self.count += 1;
+        let i = self.find(n)?;
+        Some(self.writes[i].words)
     }
 
     // Holds w in the place of its cell's write, or as the newest, for which there has to be room.
@@ -96,8 +52,8 @@ impl Table {
         ensures { held_in self.new ≡ placed (held_in self.old) w }
     {
         match self.find(w.cell) {
-            Some(i) => self.rewrite(i, w),
-            None => self.append(w),
+            Some(i) => self.writes[i] = w,
+            None => self.writes.push(w),
         }
     }
 
@@ -106,9 +62,6 @@ impl Table {
         requires { 0 < length (held_in self.old) }
         ensures { held_in self.old ≡ result ∷ held_in self.new }
     {
-        let w = self.writes[0];
-        self.writes.rotate_left(1);
-        self.count -= 1;
-        w
+        self.writes.remove(0)
     }
 }
