@@ -25,7 +25,7 @@ pub enum Fault {
     Setup { path: String, error: SetupError },
     // A show file is not opened.
     Show { path: String, why: FileRefusal },
-    // A run of a show is refused, by this number.
+    // A run of a show is refused, by this number; the refusals of a host and of a run both come here, so it is no enum.
     Run { path: String, refusal: u8 },
 }
 

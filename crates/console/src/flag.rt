@@ -1,8 +1,6 @@
 ghost use Rattle.std.specs.Prelude.{◌≡◌};
 ghost use Rattle.console.specs.Flags.{flag_of};
 
-use setup::pieces::is;
-
 // The options that stand before the files.
 #[derive(Clone, Copy)]
 pub enum Flag {
@@ -13,16 +11,14 @@ pub enum Flag {
 }
 
 impl Flag {
-    // The option that a word names.
+    // The option that a word names. A word that names none is no fault, so no error is made of it.
     pub fn of(word: &str) -> Option<Flag>
         ensures { result ≡ flag_of word.now }
     {
-        if is(word.as_bytes(), "--log") {
-            return Some(Flag::Log);
+        match word {
+            "--log" => Some(Flag::Log),
+            "--solo" => Some(Flag::Solo),
+            _ => None,
         }
-        if is(word.as_bytes(), "--solo") {
-            return Some(Flag::Solo);
-        }
-        None
     }
 }

@@ -1,7 +1,7 @@
 // The words of the command line.
 ghost use Rattle.std.specs.Prelude.{◌≡◌, string_bytes};
 ghost use Rattle.console.specs.Flags.{flag_of};
-ghost use Rattle.console.specs.CommandLine.{part_of, with, word_of, once, logged, soloed, option_in, ended, options_of, read_in};
+ghost use Rattle.console.specs.CommandLine.{part_of, with, word_of, option_in, ended, options_of, read_in};
 
 use crate::fault::Fault;
 use crate::flag::Flag;
@@ -27,74 +27,32 @@ pub struct Options {
 fn part(word: &str) -> Result<u8, Fault>
     ensures { result ≡ part_of word.now }
 {
-    match number(word.as_bytes(), 7) {
-        Ok(part) => Ok(part as u8),
-        Err(_) => Err(Fault::Part),
-    }
+    let part = number(word.as_bytes(), 7).map_err(|_| Fault::Part)?;
+    Ok(part as u8)
 }
 
 // The next word, which has to be there.
 fn next_word(words: &mut VecDeque<String>) -> Result<String, Fault>
     ensures { with result words.new.items ≡ word_of words.old.items }
 {
-    match words.pop_front() {
-        Some(word) => Ok(word),
-        None => Err(Fault::Usage),
-    }
+    words.pop_front().ok_or(Fault::Usage)
 }
 
-// The word after --log and the word after that, in place of --log.
-fn take_log(front: Front, words: &mut VecDeque<String>) -> Result<Front, Fault>
-    ensures { with result words.new.items ≡ once front.log (logged front.solo words.old.items) }
-{
-    let Front {
-        log,
-        solo,
-        setup: _,
-    } = front;
-    if log.is_some() {
-        return Err(Fault::Usage);
-    }
-    let path = next_word(words)?;
-    let setup = next_word(words)?;
-    Ok(Front {
-        log: Some(path),
-        solo,
-        setup,
-    })
-}
-
-// The part after --solo and the word after that, in place of --solo.
-fn take_solo(front: Front, words: &mut VecDeque<String>) -> Result<Front, Fault>
-    ensures { with result words.new.items ≡ once front.solo (soloed front.log words.old.items) }
-{
-    let Front {
-        log,
-        solo,
-        setup: _,
-    } = front;
-    if solo.is_some() {
-        return Err(Fault::Usage);
-    }
-    let word = next_word(words)?;
-    let part = part(word.as_str())?;
-    let setup = next_word(words)?;
-    Ok(Front {
-        log,
-        solo: Some(part),
-        setup,
-    })
-}
-
-// The option that stands in the setup's place, if there is one.
-fn take_option(front: Front, words: &mut VecDeque<String>) -> Result<Front, Fault>
+// The option that stands in the setup's place, if there is one, and then the next word in that place. Each option stands
+// at most once.
+fn take_option(mut front: Front, words: &mut VecDeque<String>) -> Result<Front, Fault>
     ensures { with result words.new.items ≡ option_in front words.old.items }
 {
     match Flag::of(front.setup.as_str()) {
-        None => Ok(front),
-        Some(Flag::Log) => take_log(front, words),
-        Some(Flag::Solo) => take_solo(front, words),
+        None => return Ok(front),
+        Some(Flag::Log) if front.log.is_none() => front.log = Some(next_word(words)?),
+        Some(Flag::Solo) if front.solo.is_none() => {
+            front.solo = Some(part(next_word(words)?.as_str())?);
+        }
+        Some(_) => return Err(Fault::Usage),
     }
+    front.setup = next_word(words)?;
+    Ok(front)
 }
 
 // The options with the shows behind them.
