@@ -1,9 +1,6 @@
 -- Verdicts of orders, from what the checks of turn, port and cells gave. Assumes nothing.
-use Rattle.std.proofs.Common.{◌≡◌, ℕ, suc, ◌+◌, ◌<◌, Bool, true, ◌&&◌, not, ltb, List, [], ◌∷◌, Some, None, Option, Ok, Err, sym, refl, ap, ◌∙◌, inl, inr, arith}
-use Rattle.std.proofs.lemmas.Bool.{lt-ltb, cases_Bool}
-use Rattle.std.specs.List.{position, position_from}
-use Rattle.std.proofs.lemmas.Iterator.Adapters.{position_from-zero}
-use Rattle.part.specs.Sets.{parts}
+use Rattle.std.proofs.Common.{◌≡◌, ℕ, ◌<◌, Bool, true, ◌&&◌, ltb, List, Ok, Err, sym, refl, ap, ◌∙◌}
+use Rattle.std.proofs.lemmas.Bool.{lt-ltb}
 use Rattle.std.specs.Result.{IsErrAnd}
 use Rattle.command.specs.declared.refusal.Refusal.{Refusal}
 use Rattle.command.specs.Answers.{refusal_number, refusal_detail}
@@ -44,38 +41,6 @@ module _ {E : Type 0} (k : Making E) (busy mine : Bool) (p : ℕ) (l : p < k.par
   pub received : (x : ℕ) (rs : List ℕ) (b : Bool) (r : Checked) → o ≡ work (receive x rs) → b ≡ receiver k p x →
       ((v : Verdict) → when mine 10 0 (when b 11 5 v) ≡ then r v) → check k busy mine p o ≡ then r (each (writable k p) 8 rs pass)
   received x rs b r e h t = asked (receive x rs) e ∙ rw (sym h) (t (each (writable k p) 8 rs pass))
-
--- refusal 12, by the place of the first cell without the right
-module _ (f : ℕ → Bool) (from : ℕ) where
-  placed_from : (i : ℕ) (ns : List ℕ) (v : Verdict) (k : ℕ) → position_from (λ (n : ℕ). not (f n)) i ns ≡ Some k → each f (from + i) ns v ≡ fail 12 (from + k)
-  placed_from i [] v k e = cc
-  placed_from i (n ∷ ns) v k e =
-      let next : suc (from + i) ≡ from + (i + 1) = omega arith in
-      elim (cases_Bool (f n)) [
-        | inl t ↦ rw (t, next) (placed_from (i + 1) ns v k (rw t at e))
-        | inr t ↦ rw t (let here : i ≡ k = (let h = rw t at e in cc) in ap (λ (j : ℕ). fail 12 (from + j)) here)
-      ]
-
-  unplaced_from : (i : ℕ) (ns : List ℕ) (v : Verdict) → position_from (λ (n : ℕ). not (f n)) i ns ≡ None → each f (from + i) ns v ≡ v
-  unplaced_from i [] v e = refl
-  unplaced_from i (n ∷ ns) v e =
-      let next : suc (from + i) ≡ from + (i + 1) = omega arith in
-      elim (cases_Bool (f n)) [
-        | inl t ↦ rw (t, next) (unplaced_from (i + 1) ns v (rw t at e))
-        | inr t ↦ (let h = rw t at e in cc)
-      ]
-
-module _ (p : ℕ) (f : ℕ → Bool) (from : ℕ) (ns : List ℕ) (v : Verdict) (l : p < parts) where
-  -- a part that there is lacks a right exactly where its rows do
-  place_is : (o : Option ℕ) → o ≡ position (λ (n : ℕ). not (ltb p parts && f n)) ns → position_from (λ (n : ℕ). not (f n)) 0 ns ≡ o
-  place_is o e =
-      sym (e ∙ (ap (λ (b : Bool). position (λ (n : ℕ). not (b && f n)) ns) (lt-ltb p parts l) ∙ position_from-zero (λ (n : ℕ). not (f n)) ns))
-
-  pub placed : (k : ℕ) → Some k ≡ position (λ (n : ℕ). not (ltb p parts && f n)) ns → each f from ns v ≡ fail 12 (from + k)
-  placed k e = let start : from ≡ from + 0 = omega arith in ap (λ (j : ℕ). each f j ns v) start ∙ placed_from f from 0 ns v k (place_is (Some k) e)
-
-  pub unplaced : None ≡ position (λ (n : ℕ). not (ltb p parts && f n)) ns → each f from ns v ≡ v
-  unplaced e = let start : from ≡ from + 0 = omega arith in ap (λ (j : ℕ). each f j ns v) start ∙ unplaced_from f from 0 ns v (place_is None e)
 
 -- the right to a port, of a part that there is
 pub port_right : (p n : ℕ) (right b : Bool) → ltb p n ≡ true → right ≡ (ltb p n && b) → right ≡ b

@@ -24,10 +24,12 @@ pub(crate) fn first_without(
     requires from { from ≤ 8 }
     ensures { (v : Verdict) → each (touchable (rows_of sheet.now) writing part.number) from (cell_list cells.now) v ≡ then result v }
 {
-    match Numbers::of(cells).position(|cell| !sheet.may_touch(cell, part.number, writing)) {
-        Some(i) => Err(Refusal::Cell(from + i as u8)),
-        None => Ok(()),
+    for (i, cell) in Numbers::of(cells).enumerate() {
+        if !sheet.may_touch(cell, part.number, writing) {
+            return Err(Refusal::Cell(from + i as u8));
+        }
     }
+    Ok(())
 }
 
 // Whether the turn is this part's.

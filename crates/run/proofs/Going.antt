@@ -1,6 +1,6 @@
 -- A run after some turns. Assumes nothing.
-use Rattle.std.proofs.Common.{◌≡◌, ℕ, ◌+◌, ◌<◌, ◌≤◌, Bool, true, false, List, [], ◌∷◌, length, get_or, drop, set, sym, refl, ap, ◌∙◌, ap₂, arith, length-drop}
-use Rattle.std.proofs.lemmas.List.{drop_more, length-set}
+use Rattle.std.proofs.Common.{◌≡◌, ℕ, ◌+◌, ◌<◌, ◌≤◌, Bool, true, false, List, [], ◌∷◌, ◌++◌, map, length, get_or, take, drop, set, sym, refl, ap, ◌∙◌, subst, ap₂, arith, length-drop}
+use Rattle.std.proofs.lemmas.List.{drop_more, length-set, take_all, length-map}
 use Rattle.element.specs.declared.element.Element.{Ghosts as Elements}
 use Rattle.instruction.specs.declared.set.InstructionSet.{Ghosts as Sets}
 use Rattle.store.specs.declared.store.Store.{Ghosts as Stores}
@@ -9,12 +9,13 @@ use Rattle.showfile.specs.Chain.{record_at}
 use Rattle.isolation.specs.Making.{Making}
 use Rattle.isolation.specs.Request.{roomy, order, entry, Step}
 use Rattle.isolation.specs.Machine.{State, host_step}
+use Rattle.isolation.specs.History.{log_of, after_all}
 use Rattle.isolation.proofs.Steps.{rooms}
 use Rattle.host.specs.declared.host.Host.{Host}
 use Rattle.host.specs.Logged.{record_of}
 use Rattle.host.specs.Hosted.{state_of, fits_of, making_of}
 use Rattle.host.specs.Commands.{Commanded}
-use Rattle.run.specs.Runs.{request_with, request_at, Left}
+use Rattle.run.specs.Runs.{request_with, request_at, Left, Plays}
 use Rattle.run.proofs.Filled.{Filled, filled_none, filled_more}
 
 -- of scratch a command feels only whether it is enough
@@ -59,11 +60,11 @@ module _ {S I E : Type 0} (st : Stores S E) (el : Elements E) (is : Sets I E) (b
       Going st el is bs ps h0 old args0 results0 left n h new args results → left ≡ p ∷ left' → n < length ps
   to_come left left' n p h new args results w e = omega (arith, simp length-drop at (ap length (sym e ∙ w.left_is)))
 
-  pub going_more : (left left' : List ℕ) (n p : ℕ) (h h' : Host S I E) (new : List LogRecord) (args results args' results' : List E) (bytes : List ℕ) (r : LogRecord) →
+  going_at : (left left' : List ℕ) (n p : ℕ) (h h' : Host S I E) (new : List LogRecord) (args results args' results' : List E) (bytes : List ℕ) (r : LogRecord) →
       8 ≤ length args0 → 4 ≤ length results0 → Going st el is bs ps h0 old args0 results0 left n h new args results → left ≡ p ∷ left' → bytes ≡ record_at bs p →
       Commanded st el is h h' (request_with p bytes 8 4) r → st.lender h'.store ≡ st.lender h.store → length args' ≡ length args → length results' ≡ length results →
       Going st el is bs ps h0 old args0 results0 left' (n + 1) h' (set new n r) args' results'
-  going_more left left' n p h h' new args results args' results' bytes r ra rr w e be did lend la lr =
+  going_at left left' n p h h' new args results args' results' bytes r ra rr w e be did lend la lr =
       let more : n < length ps = to_come left left' n p h new args results w e in
       let both : p ∷ left' ≡ get_or ps n 0 ∷ drop (n + 1) ps = sym e ∙ (w.left_is ∙ drop_more ps n 0 more) in
       let here : p ≡ get_or ps n 0 = cc in
@@ -93,6 +94,34 @@ module _ {S I E : Type 0} (st : Stores S E) (el : Elements E) (is : Sets I E) (b
         results_left = record { long = lr ∙ w.results_left.long; untouched = λ z. absurd (omega arith) };
       }
 
-  pub going_end : (left : List ℕ) (n : ℕ) (h : Host S I E) (new : List LogRecord) (args results : List E) →
+  -- the same, with the place in the log and the count afterwards as they came
+  pub going_more : (left left' : List ℕ) (n i n' p : ℕ) (h h' : Host S I E) (new : List LogRecord) (args results args' results' : List E) (bytes : List ℕ) (r : LogRecord) →
+      i ≡ n → n' ≡ n + 1 → 8 ≤ length args0 → 4 ≤ length results0 → Going st el is bs ps h0 old args0 results0 left n h new args results → left ≡ p ∷ left' → bytes ≡ record_at bs p →
+      Commanded st el is h h' (request_with p bytes 8 4) r → st.lender h'.store ≡ st.lender h.store → length args' ≡ length args → length results' ≡ length results →
+      Going st el is bs ps h0 old args0 results0 left' n' h' (set new i r) args' results'
+  going_more left left' n i n' p h h' new args results args' results' bytes r at next ra rr w e be did lend la lr =
+      subst (λ (j : ℕ). Going st el is bs ps h0 old args0 results0 left' n' h' (set new j r) args' results') (sym at)
+      (subst (λ (j : ℕ). Going st el is bs ps h0 old args0 results0 left' j h' (set new n r) args' results') (sym next)
+      (going_at left left' n p h h' new args results args' results' bytes r ra rr w e be did lend la lr))
+
+  going_end : (left : List ℕ) (n : ℕ) (h : Host S I E) (new : List LogRecord) (args results : List E) →
       Going st el is bs ps h0 old args0 results0 left n h new args results → left ≡ [] → n ≡ length ps
   going_end left n h new args results w e = omega (arith, w.within, simp length-drop at (ap length (sym e ∙ w.left_is)))
+
+  -- all of them were done
+  pub going_played : (left : List ℕ) (n : ℕ) (h : Host S I E) (new : List LogRecord) (args results : List E) →
+      Going st el is bs ps h0 old args0 results0 left n h new args results → left ≡ [] → Plays st el is h0 h (map (request_at bs (length args0) (length results0)) ps) old new
+  going_played left n h new args results w e =
+      let req = request_at bs (length args0) (length results0) in
+      let rec = record_of el.packed in
+      let s0 = state_of st el h0 in
+      let f = λ (m : ℕ → E). host_step (fits_of st el h0) (making_of el is h0 m) in
+      let full : n ≡ length ps = going_end left n h new args results w e in
+      let all : take n ps ≡ ps = take_all n ps (omega (arith, full)) in
+      let long : n ≡ length (map req ps) = full ∙ sym (length-map ps req) in
+      record {
+        log = λ m. (w.filled m).log_is ∙ ap₂ (λ (qs : List ℕ) (i : ℕ). map rec (log_of (f m) s0 (map req qs)) ++ drop i old) all long;
+        state = λ m. (w.filled m).state_is ∙ ap (λ (qs : List ℕ). after_all (f m) s0 (map req qs)) all;
+        making = w.making;
+        fits = w.fits;
+      }

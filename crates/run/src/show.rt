@@ -29,36 +29,32 @@ fn do_one<S: Store, I: InstructionSet<S::Item>>(
     host.command(place as u32, bytes, &mut args[0..8], &mut results[0..4])
 }
 
-// Each command of the chain, in chain order; how many there were.
+// Each command of the chain, in chain order.
 fn play<S: Store, I: InstructionSet<S::Item>>(
     host: &mut Host<S, I>,
     file: ShowFile,
     log: &mut [LogRecord],
     args: &mut [S::Item],
     results: &mut [S::Item],
-) -> usize
+)
     requires args { 8 ≤ length args.old }
     requires results { 4 ≤ length results.old }
     requires log { length (rest file) ≤ length log.old }
-    ensures count { result ≡ length (rest file.entry) }
     ensures played { Plays S.Store S.Item.Element I.InstructionSet host.old host.new (requests_of file.entry (length args.old) (length results.old)) log.old log.new }
     ensures lender { S.Store.lender host.new.store ≡ S.Store.lender host.old.store }
-    ensures args { Left result args.old args.new }
-    ensures results { Left result results.old results.new }
+    ensures args { Left (length (rest file.entry)) args.old args.new }
+    ensures results { Left (length (rest file.entry)) results.old results.new }
 {
-    let mut n = 0;
-    for (place, bytes) in file {
+    for (n, (place, bytes)) in file.enumerate() {
         log[n] = do_one(host, place, bytes, args, results);
-        n += 1;
     }
-    n
 }
 
 // Sets every place to null where something was done.
-fn clear_after<E: Element>(done: usize, places: &mut [E])
-    ensures { places.new ≡ left_null (nat_lt 0 done) E.blank places.old }
+fn clear_after<E: Element>(count: usize, places: &mut [E])
+    ensures { places.new ≡ left_null (nat_lt 0 count) E.blank places.old }
 {
-    if done > 0 {
+    if count > 0 {
         clear(places);
     }
 }
@@ -80,11 +76,12 @@ pub fn run<S: Store, I: InstructionSet<S::Item>>(
     if args.len() < 8 || results.len() < 4 {
         return Err(RunRefusal::Scratch);
     }
-    if log.len() < file.remaining() {
+    let count = file.remaining();
+    if log.len() < count {
         return Err(RunRefusal::Log);
     }
-    let done = play(host, file, log, args, results);
-    clear_after(done, args);
-    clear_after(done, results);
-    Ok(done)
+    play(host, file, log, args, results);
+    clear_after(count, args);
+    clear_after(count, results);
+    Ok(count)
 }
