@@ -1,5 +1,6 @@
 -- The examples of chains. Assumes nothing.
 use Rattle.std.proofs.Common.{◌≡◌, ℕ, zero, suc, ◌<◌, List, ◌∷◌, ◌++◌, get_or, replicate, refl, arith, lit<, lit≤}
+use Rattle.std.proofs.lemmas.Grind.{common_steps}
 use Rattle.showfile.specs.Chain.{Link, here, onward, Sized, Clean}
 use Rattle.showfile.proofs.Cycle.{place, endless}
 use Rattle.examples.specs.Examples.{three, Refuses}
@@ -12,9 +13,7 @@ goes3 P a b c (suc (suc zero)) h = c
 goes3 P a b c (suc (suc (suc k))) h = absurd (omega arith)
 
 zeros : (n j : ℕ) (xs : List ℕ) → j < n → get_or (replicate n 0 ++ xs) j 0 ≡ 0
-zeros zero j xs h = absurd (omega arith)
-zeros (suc n) zero xs h = refl
-zeros (suc n) (suc j) xs h = zeros n j xs (omega arith)
+zeros n j xs h = grind (arith, common_steps)
 
 clean : (a b c : ℕ) → Clean (three a b c)
 clean a b c zero low high = absurd (omega arith)

@@ -1,23 +1,15 @@
 -- What a passed check tells. Assumes nothing.
-use Rattle.std.proofs.Common.{◌≡◌, ℕ, suc, ◌<◌, Bool, true, false, ◌&&◌, ◌||◌, eqb, ltb, ◌⊎◌, List, [], ◌∷◌, sym, refl, subst, inl, inr}
-use Rattle.std.proofs.lemmas.Bool.{eq-eqb, ne_eqb, lt-ltb, ltb-true, cases_eq, and_parts}
+use Rattle.std.proofs.Common.{◌≡◌, ℕ, suc, ◌<◌, Bool, true, false, ◌&&◌, ◌||◌, ltb, List, [], ◌∷◌, refl, arith}
+use Rattle.std.proofs.lemmas.Bool.{ltb-true, and_parts}
 use Rattle.part.specs.Sets.{bit}
 use Rattle.cells.specs.Cells.{member, Within}
 use Rattle.command.specs.Order.{Work, instruct, send, receive, Order, malformed, restore, save, work}
 use Rattle.isolation.specs.Making.{Making}
-use Rattle.isolation.specs.Check.{Verdict, pass, fail, when, each, may, check, readable, writable, sender, receiver}
-
-Failed : Verdict → Type 0
-Failed pass = ⊥
-Failed (fail n d) = Unit {0}
-
-pub not_fail : (n d : ℕ) → fail n d ≡ pass → ⊥
-unfolding Failed
-not_fail n d e = subst Failed e tt
+use Rattle.isolation.specs.Check.{Verdict, pass, when, each, may, check, readable, writable, sender, receiver}
 
 pub when_pass : (b : Bool) (n d : ℕ) (v : Verdict) → when b n d v ≡ pass → (b ≡ true) × (v ≡ pass)
 when_pass true n d v e = (refl, e)
-when_pass false n d v e = absurd (not_fail n d e)
+when_pass false n d v e = absurd (cc)
 
 abbrev pub Every : (ℕ → Bool) → List ℕ → Type 0
 Every f [] = Unit {0}
@@ -38,7 +30,7 @@ every_within k p (n ∷ ns) h =
 -- an order that passed is of one of the parts
 module _ {E : Type 0} (k : Making E) (busy mine : Bool) (p : ℕ) where
   pub passed_part : (o : Order) → check k busy mine p o ≡ pass → p < k.parts
-  passed_part (malformed n d) e = absurd (not_fail n d e)
+  passed_part (malformed n d) e = cc
   passed_part restore e = ltb-true p k.parts (when_pass (ltb p k.parts) _ _ _ e).0
   passed_part save e = ltb-true p k.parts (when_pass (ltb p k.parts) _ _ _ e).0
   passed_part (work w) e = ltb-true p k.parts (when_pass (ltb p k.parts) _ _ _ e).0
@@ -65,8 +57,4 @@ module _ {E : Type 0} (k : Making E) (busy mine : Bool) (p : ℕ) where
 -- of cells that are below s, being named is being named and below s
 pub member_within : (s : ℕ) (ns : List ℕ) → Within s ns → (n : ℕ) → (member ns n && ltb n s) ≡ member ns n
 member_within s [] h n = refl
-member_within s (i ∷ ns) h n = go (cases_eq n i) (member_within s ns h.1 n)
-  where
-    go : (n ≡ i) ⊎ (n ≡ i → ⊥) → (member ns n && ltb n s) ≡ member ns n → ((eqb n i || member ns n) && ltb n s) ≡ (eqb n i || member ns n)
-    go (inl d) e = rw (eq-eqb n i d) (lt-ltb n s (subst (λ (x : ℕ). x < s) (sym d) h.0))
-    go (inr d) e = rw (ne_eqb n i d) e
+member_within s (i ∷ ns) h n = grind (arith, h.0, member_within s ns h.1 n)

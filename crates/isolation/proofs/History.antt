@@ -1,5 +1,6 @@
 -- The theorem put together, over whole histories and for one request after a history. Assumes nothing.
-use Rattle.std.proofs.Common.{◌≡◌, ℕ, ◌<◌, Bool, true, false, cond, List, [], ◌∷◌, ◌++◌, sym, refl, ap, ◌∙◌}
+use Rattle.std.proofs.Common.{◌≡◌, ℕ, ◌<◌, Bool, true, cond, List, [], ◌∷◌, ◌++◌, sym, refl, ap, ◌∙◌, arith}
+use Rattle.std.proofs.lemmas.Grind.{common_steps}
 use Rattle.port.proofs.Upstream.{smallest}
 use Rattle.isolation.specs.Making.{Making, Exclusive, upstream_of, SmallestOf}
 use Rattle.isolation.specs.Request.{Request, granted, Entry, entry, Step}
@@ -14,17 +15,8 @@ upstreams : {E : Type 0} (k : Making E) (p : ℕ) → p < k.parts → SmallestOf
 upstreams k p l = smallest k.parts k.sends k.receives p l
 
 -- one request more
-final : {V : Type 0} → V → List V → V
-final d [] = d
-final d (x ∷ xs) = final x xs
-
-final_push : {V : Type 0} (d : V) (xs : List V) (x : V) → final d (xs ++ (x ∷ [])) ≡ x
-unfolding final
-final_push d [] x = refl
-final_push d (y ∷ xs) x = final_push y xs x
-
 last_same : {V : Type 0} (xs ys : List V) (x y : V) → xs ++ (x ∷ []) ≡ ys ++ (y ∷ []) → x ≡ y
-last_same xs ys x y e = sym (final_push x xs x) ∙ (ap (final x) e ∙ final_push x ys y)
+last_same xs ys x y e = grind (arith, common_steps)
 
 pub log_push : {E S : Type 0} (f : Request → S → Step E S) (s : S) (h : List Request) (c : Request) →
     log_of f s (h ++ (c ∷ [])) ≡ log_of f s h ++ (entry c (f c (after_all f s h)).answer ∷ [])
@@ -37,22 +29,17 @@ after_push f s [] c = refl
 after_push f s (b ∷ h) c = after_push f (f b s).after h c
 
 cond_push : {V : Type 0} (b : Bool) (x : V) (xs ys : List V) → cond b (x ∷ (xs ++ ys)) (xs ++ ys) ≡ cond b (x ∷ xs) xs ++ ys
-cond_push true x xs ys = refl
-cond_push false x xs ys = refl
+cond_push b x xs ys = grind (arith, common_steps)
 
 purge_push : {E S : Type 0} (k : Making E) (u : ℕ → Bool) (f : Request → S → Step E S) (s : S) (h : List Request) (c : Request) (e : Entry E) →
     is_left k u c e.answer ≡ true → purge k u (h ++ (c ∷ [])) (log_of f s h ++ (e ∷ [])) ≡ purge k u h (log_of f s h) ++ (c ∷ [])
 purge_push k u f s [] c e t = rw t
-purge_push k u f s (b ∷ h) c e t =
-    let i = purge_push k u f (f b s).after h c e t in
-    rw i (cond_push (is_left k u b (f b s).answer) b (purge k u h (log_of f (f b s).after h)) (c ∷ []))
+purge_push k u f s (b ∷ h) c e t = rw (purge_push k u f (f b s).after h c e t) (cond_push (is_left k u b (f b s).answer) b _ _)
 
 kept_push : {E S : Type 0} (k : Making E) (u : ℕ → Bool) (f : Request → S → Step E S) (s : S) (h : List Request) (c : Request) (e : Entry E) →
     is_left k u c e.answer ≡ true → kept k u (h ++ (c ∷ [])) (log_of f s h ++ (e ∷ [])) ≡ kept k u h (log_of f s h) ++ (e ∷ [])
 kept_push k u f s [] c e t = rw t
-kept_push k u f s (b ∷ h) c e t =
-    let i = kept_push k u f (f b s).after h c e t in
-    rw i (cond_push (is_left k u b (f b s).answer) (entry b (f b s).answer) (kept k u h (log_of f (f b s).after h)) (e ∷ []))
+kept_push k u f s (b ∷ h) c e t = rw (kept_push k u f (f b s).after h c e t) (cond_push (is_left k u b (f b s).answer) _ _ _)
 
 -- (a) for one request
 same_answer : {E : Type 0} (k : Making E) → Exclusive k → (h : List Request) (c : Request) → answer_after k h c ≡ box_answer_after k h c

@@ -1,8 +1,8 @@
 -- Work depends on the cells that its part may touch and the ports that it may receive from, and changes no other cell
 -- and no port of which the part is neither sender nor receiver.
 -- Assumes nothing.
-use Rattle.std.proofs.Common.{◌≡◌, ℕ, ◌<◌, Bool, true, false, ◌||◌, eqb, ltb, List, [], ◌∷◌, map, refl, ap, ◌∙◌, subst, ap₂}
-use Rattle.std.proofs.lemmas.Bool.{ne_eqb, ltb-true, cond-false, and_parts, or_left, or_right, or_from, both_ways}
+use Rattle.std.proofs.Common.{◌≡◌, ℕ, ◌<◌, Bool, true, false, ◌||◌, eqb, ltb, List, [], ◌∷◌, map, refl, ap, ◌∙◌, ap₂, arith}
+use Rattle.std.proofs.lemmas.Bool.{cond-false, and_parts, or_left}
 use Rattle.part.specs.Sets.{bit}
 use Rattle.cells.specs.Cells.{member, beside}
 use Rattle.queue.specs.Queue.{Queue, appended, first, taken}
@@ -24,7 +24,7 @@ put_alike z ns vs m m' n e = cond_two (member ns n) refl e
 
 unnamed : (g : ℕ → Bool) (ns : List ℕ) (n : ℕ) → Every g ns → g n ≡ false → member ns n ≡ false
 unnamed g [] n h f = refl
-unnamed g (i ∷ ns) n h f = or_from (eqb n i) (member ns n) (ne_eqb n i (λ e. both_ways (g n) f (ap g e ∙ h.0))) (unnamed g ns n h.1 f)
+unnamed g (i ∷ ns) n h f = grind (arith, h.0, unnamed g ns n h.1 f)
 
 put_frame : {E : Type 0} (g : ℕ → Bool) (z : E) (ns : List ℕ) (vs : List E) (m : ℕ → E) (n : ℕ) → Every g ns → g n ≡ false → put z ns vs m n ≡ m n
 put_frame g z ns vs m n h f = cond-false (member ns n) (beside z ns vs n) (m n) (unnamed g ns n h f)
@@ -95,10 +95,8 @@ frame_queues k p (instruct c ns rs) h m o y t = ap (λ (f : ℕ → Queue _). f 
 frame_queues k p (send x ns) h m o y t =
     let g = when_pass (sender k p x) _ _ _ h in
     let r = and_parts (ltb x 16) (bit p (k.sends x)) g.0 in
-    change_there o (appended (map m ns)) x y
-    (λ e. subst (λ (z : ℕ). (z < 16 → (bit p (k.sends z) || bit p (k.receives z)) ≡ true → ⊥)) e t (ltb-true x 16 r.0) (or_left (bit p (k.sends x)) (bit p (k.receives x)) r.1))
+    change_there o (appended (map m ns)) x y (λ e. grind (arith, t, r.0, r.1, e))
 frame_queues k p (receive x rs) h m o y t =
     let g = when_pass (receiver k p x) _ _ _ h in
     let r = and_parts (ltb x 16) (bit p (k.receives x)) g.0 in
-    change_there o taken x y
-    (λ e. subst (λ (z : ℕ). (z < 16 → (bit p (k.sends z) || bit p (k.receives z)) ≡ true → ⊥)) e t (ltb-true x 16 r.0) (or_right (bit p (k.sends x)) (bit p (k.receives x)) r.1))
+    change_there o taken x y (λ e. grind (arith, t, r.0, r.1, e))

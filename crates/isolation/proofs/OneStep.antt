@@ -1,13 +1,13 @@
 -- One request on two sets of boxes that are alike for a closed set of parts. Assumes nothing.
-use Rattle.std.proofs.Common.{◌≡◌, ℕ, ◌<◌, Bool, true, false, not, ◌&&◌, eqb, ltb, ◌⊎◌, sym, refl, ap, ◌∙◌, subst, inl, inr}
-use Rattle.std.proofs.lemmas.Bool.{eq-eqb, ne_eqb, cases_eq, cases_Bool, both_ways, and_parts, and_from, false≢true, true≢false}
+use Rattle.std.proofs.Common.{◌≡◌, ℕ, ◌<◌, Bool, true, false, ◌&&◌, eqb, ltb, ◌⊎◌, sym, refl, ap, ◌∙◌, subst, inl, inr, arith}
+use Rattle.std.proofs.lemmas.Bool.{eq-eqb, ne_eqb, cases_eq, cases_Bool, both_ways, and_parts, and_from}
 use Rattle.part.specs.Sets.{bit}
 use Rattle.port.specs.Upstream.{Closed}
 use Rattle.command.specs.Order.{Order, malformed, restore, save, work}
 use Rattle.isolation.specs.Tables.{replace, any}
 use Rattle.isolation.specs.Making.{Making}
 use Rattle.isolation.specs.Request.{Request, whole, part, kind, turn_kind, turn_call, order, granted, Step}
-use Rattle.isolation.specs.Check.{Verdict, pass, fail, when, may, check, touchable}
+use Rattle.isolation.specs.Check.{Verdict, pass, fail, may, check, touchable}
 use Rattle.isolation.specs.Effect.{Effect, effect}
 use Rattle.isolation.specs.Boxes.{Boxes, box_act, box_step}
 use Rattle.isolation.specs.OneStep.{Heard, Alike, GrantedAlike, OneStep}
@@ -23,7 +23,7 @@ alike_sym : {E : Type 0} (k : Making E) (u : ℕ → Bool) (b b' : Boxes E) → 
 alike_sym k u b b' l = record { marks = λ q t. sym (l.marks q t); cells = λ q t n c. sym (l.cells q t n c); queues = λ y h. sym (l.queues y h) }
 
 pub other_part : (u : ℕ → Bool) (p q : ℕ) → u p ≡ false → u q ≡ true → q ≡ p → ⊥
-other_part u p q f t e = both_ways (u p) f (ap u (sym e) ∙ t)
+other_part u p q f t e = grind arith
 
 -- an order of a part that is no member alters nothing that members see
 outside : {E : Type 0} (k : Making E) (u : ℕ → Bool) (a : ℕ) → Closed k.parts k.sends k.receives a u → (v : Verdict) (p : ℕ) (o : Order) (b b' : Boxes E) (busy mine : Bool) →
@@ -31,12 +31,12 @@ outside : {E : Type 0} (k : Making E) (u : ℕ → Bool) (a : ℕ) → Closed k.
 outside k u a cl (fail n d) p o b b' busy mine e f l = l
 outside k u a cl pass p (malformed n d) b b' busy mine e f l = l
 outside k u a cl pass p restore b b' busy mine e f l = record {
-  marks = λ q t. replace_there b.marks true p q (other_part u p q f t) ∙ l.marks q t;
+  marks = λ q t. grind (arith, l.marks q t);
   cells = l.cells;
   queues = l.queues;
 }
 outside k u a cl pass p save b b' busy mine e f l = record {
-  marks = λ q t. replace_there b.marks false p q (other_part u p q f t) ∙ l.marks q t;
+  marks = λ q t. grind (arith, l.marks q t);
   cells = l.cells;
   queues = l.queues;
 }
@@ -92,21 +92,12 @@ inside {E} k u pass p (work w) b b' busy mine e t l =
     go x q n z c (inl d) = rw (eq-eqb q p d) (x.cells n (subst (λ (i : ℕ). touchable k i n ≡ true) d c))
     go x q n z c (inr d) = rw (ne_eqb q p d) (l.cells q z n c)
 
--- a restore that is granted in both or in neither has the same verdict in both
-same_restore : {E : Type 0} (k : Making E) (p : ℕ) (b b' : Boxes E) (real busy busy' : Bool) →
-    granted (box_act k (when real 9 2 (when (not busy) 10 0 pass)) p restore b).answer ≡ granted (box_act k (when real 9 2 (when (not busy') 10 0 pass)) p restore b').answer →
-    when real 9 2 (when (not busy) 10 0 pass) ≡ when real 9 2 (when (not busy') 10 0 pass)
-same_restore k p b b' false busy busy' g = refl
-same_restore k p b b' true true true g = refl
-same_restore k p b b' true false false g = refl
-same_restore k p b b' true true false g = absurd (false≢true g)
-same_restore k p b b' true false true g = absurd (true≢false g)
-
+-- a turn call that is granted in both or in neither has the same verdict in both
 same_verdict : {E : Type 0} (k : Making E) (p : ℕ) (o : Order) (f t : Bool) → Suits f t o → (b b' : Boxes E) (busy busy' mine : Bool) →
     ((f && t) ≡ true → granted (box_act k (check k busy mine p o) p o b).answer ≡ granted (box_act k (check k busy' mine p o) p o b').answer) →
     check k busy mine p o ≡ check k busy' mine p o
 same_verdict k p (malformed n d) f t s b b' busy busy' mine g = refl
-same_verdict k p restore f t s b b' busy busy' mine g = same_restore k p b b' (ltb p k.parts) busy busy' (g (and_from f t s.0 s.1))
+same_verdict k p restore f t s b b' busy busy' mine g = grind (arith, g (and_from f t s.0 s.1))
 same_verdict k p save f t s b b' busy busy' mine g = refl
 same_verdict k p (work w) f t s b b' busy busy' mine g = refl
 

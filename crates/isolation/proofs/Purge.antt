@@ -1,47 +1,30 @@
 -- What is left of a history is answered as it was: first by the separate boxes, then by the machine. Of one request this uses
 -- the claim on one step, and nothing else of what a request does. Assumes nothing.
-use Rattle.std.proofs.Common.{◌≡◌, ℕ, ◌<◌, Bool, true, false, cond, not, ◌&&◌, ◌||◌, ltb, ◌⊎◌, List, [], ◌∷◌, sym, refl, ap, ◌∙◌, subst, ap₂, inl, inr}
-use Rattle.std.proofs.lemmas.Bool.{lt-ltb, false≢true, true≢false, cases_Bool, both_ways, and_parts}
+use Rattle.std.proofs.Common.{◌≡◌, ℕ, Bool, true, false, cond, not, ◌&&◌, ◌||◌, ltb, ◌⊎◌, List, [], ◌∷◌, sym, refl, ap, ◌∙◌, subst, ap₂, inl, inr, arith}
+use Rattle.std.proofs.lemmas.Bool.{false≢true, cases_Bool, and_parts}
 use Rattle.port.specs.Upstream.{Closed}
 use Rattle.command.specs.Order.{Order, malformed, restore, save, work}
 use Rattle.isolation.specs.Tables.{any}
 use Rattle.isolation.specs.Making.{Making, Exclusive}
 use Rattle.isolation.specs.Request.{Request, whole, part, kind, turn_kind, order, granted, Entry, entry}
-use Rattle.isolation.specs.Check.{Verdict, pass, fail, when, check}
+use Rattle.isolation.specs.Check.{Verdict, pass, fail, check}
 use Rattle.isolation.specs.Boxes.{Boxes, separate, box_act, box_step}
 use Rattle.isolation.specs.History.{log_of, machine_log, box_log, is_left, purge, kept}
 use Rattle.isolation.specs.OneStep.{Alike, GrantedAlike, OneStep}
-use Rattle.isolation.proofs.Tables.{replace_there, any_here, any_none}
+use Rattle.isolation.proofs.Tables.{any_here, any_none}
 use Rattle.isolation.proofs.Checks.{passed_part}
 use Rattle.isolation.proofs.Orders.{Suits, suits_order}
-use Rattle.isolation.proofs.OneStep.{alike_same, other_part, one_step}
+use Rattle.isolation.proofs.OneStep.{alike_same, one_step}
 use Rattle.isolation.proofs.Simulate.{as_boxes}
 
 -- a member's request that is not left was refused, so it altered nothing
-turn_left : (f t r : Bool) → f ≡ true → t ≡ true → (((f && t) && true) || r) ≡ false → ⊥
-turn_left true true r d e h = true≢false h
-turn_left true false r d e h = false≢true e
-turn_left false t r d e h = false≢true d
-
-work_left : (f t x r : Bool) → f ≡ true → t ≡ false → x ≡ true → (r || (f && (x && not t))) ≡ false → ⊥
-work_left f t x true d e g h = true≢false h
-work_left true false true false d e g h = true≢false h
-work_left true false false false d e g h = false≢true g
-work_left true true x false d e g h = true≢false e
-work_left false t x false d e g h = false≢true d
-
 stays : {E : Type 0} (k : Making E) (v : Verdict) (p : ℕ) (o : Order) (f t : Bool) → Suits f t o → (b : Boxes E) (busy mine : Bool) → check k busy mine p o ≡ v →
     (((f && t) && granted (box_act k v p o b).answer) || (f && (ltb p k.parts && not t))) ≡ false → (box_act k v p o b).after ≡ b
 stays k (fail n d) p o f t s b busy mine e h = refl
 stays k pass p (malformed n d) f t s b busy mine e h = refl
-stays k pass p restore f t s b busy mine e h = absurd (turn_left f t _ s.0 s.1 h)
-stays k pass p save f t s b busy mine e h = absurd (turn_left f t _ s.0 s.1 h)
-stays k pass p (work w) f t s b busy mine e h =
-    absurd (work_left f t (ltb p k.parts) _ s.0 s.1 (lt-ltb p k.parts (passed_part k busy mine p (work w) e)) h)
-
-and_rest : (a b : Bool) → a ≡ true → (a && b) ≡ false → b ≡ false
-and_rest true b e h = h
-and_rest false b e h = absurd (false≢true e)
+stays k pass p restore f t s b busy mine e h = absurd (grind (arith, s.0, s.1))
+stays k pass p save f t s b busy mine e h = absurd (grind (arith, s.0, s.1))
+stays k pass p (work w) f t s b busy mine e h = absurd (grind (arith, s.0, s.1, passed_part k busy mine p (work w) e))
 
 dropped : {E : Type 0} (k : Making E) (u : ℕ → Bool) → OneStep k u → (c : Request) (b b' : Boxes E) → is_left k u c (box_step k c b).answer ≡ false →
     Alike k u b b' → Alike k u (box_step k c b).after b'
@@ -51,7 +34,7 @@ dropped {E} k u one c b b' e l = go (cases_Bool (u (part c)))
     go (inl t) =
         subst (λ (x : Boxes E). Alike k u x b')
         (sym (stays k _ (part c) (order c) (whole c) (turn_kind (kind c)) (suits_order c) b (any k.parts b.marks) (b.marks (part c)) refl
-        (and_rest (u (part c)) _ t e))) l
+        (grind (arith, t, e)))) l
     go (inr f) = one.other c b b' l f
 
 -- no mark but a member's is open
@@ -61,56 +44,26 @@ Shut u b = (q : ℕ) → u q ≡ false → b.marks q ≡ false
 shut_act : {E : Type 0} (k : Making E) (u : ℕ → Bool) (v : Verdict) (p : ℕ) (o : Order) (b : Boxes E) → u p ≡ true → Shut u b → Shut u (box_act k v p o b).after
 shut_act k u (fail n d) p o b t s = s
 shut_act k u pass p (malformed n d) b t s = s
-shut_act k u pass p restore b t s = λ q z. replace_there b.marks true p q (λ d. other_part u q p z t (sym d)) ∙ s q z
-shut_act k u pass p save b t s = λ q z. replace_there b.marks false p q (λ d. other_part u q p z t (sym d)) ∙ s q z
+shut_act k u pass p restore b t s = λ q z. grind (arith, s q z)
+shut_act k u pass p save b t s = λ q z. grind (arith, s q z)
 shut_act k u pass p (work w) b t s = s
 
 -- where no mark is open in the first boxes, none is in the second
 all_shut : {E : Type 0} (k : Making E) (u : ℕ → Bool) (b b' : Boxes E) → Alike k u b b' → Shut u b' → any k.parts b.marks ≡ false → any k.parts b'.marks ≡ false
-all_shut k u b b' l s e = any_none k.parts b'.marks (λ q h. go q h (cases_Bool (u q)))
-  where
-    shut : (q : ℕ) → q < k.parts → (b.marks q ≡ true) ⊎ (b.marks q ≡ false) → b.marks q ≡ false
-    shut q h (inl t) = absurd (both_ways (any k.parts b.marks) e (any_here k.parts q b.marks h t))
-    shut q h (inr t) = t
-
-    go : (q : ℕ) → q < k.parts → (u q ≡ true) ⊎ (u q ≡ false) → b'.marks q ≡ false
-    go q h (inl t) = sym (l.marks q t) ∙ shut q h (cases_Bool (b.marks q))
-    go q h (inr t) = s q t
+all_shut k u b b' l s e = any_none k.parts b'.marks (λ q h. grind (arith, l.marks q, s q, any_here k.parts q b.marks h))
 
 -- a turn call that the first boxes grant, the second grant too
-restore_too : {E : Type 0} (k : Making E) (p : ℕ) (b b' : Boxes E) (real busy busy' : Bool) → (busy ≡ false → busy' ≡ false) →
-    granted (box_act k (when real 9 2 (when (not busy) 10 0 pass)) p restore b).answer ≡ true →
-    granted (box_act k (when real 9 2 (when (not busy') 10 0 pass)) p restore b').answer ≡ true
-restore_too k p b b' false busy busy' h g = absurd (false≢true g)
-restore_too k p b b' true true busy' h g = absurd (false≢true g)
-restore_too k p b b' true false false h g = refl
-restore_too k p b b' true false true h g = absurd (true≢false (h refl))
-
-save_too : {E : Type 0} (k : Making E) (p : ℕ) (b b' : Boxes E) (real mine : Bool) →
-    granted (box_act k (when real 9 2 (when mine 10 0 pass)) p save b).answer ≡ true →
-    granted (box_act k (when real 9 2 (when mine 10 0 pass)) p save b').answer ≡ true
-save_too k p b b' false mine g = absurd (false≢true g)
-save_too k p b b' true false g = absurd (false≢true g)
-save_too k p b b' true true g = refl
-
 granted_too : {E : Type 0} (k : Making E) (p : ℕ) (o : Order) (f t : Bool) → Suits f t o → (b b' : Boxes E) (busy busy' mine : Bool) → (busy ≡ false → busy' ≡ false) →
     (f && t) ≡ true → granted (box_act k (check k busy mine p o) p o b).answer ≡ true → granted (box_act k (check k busy' mine p o) p o b').answer ≡ true
 granted_too k p (malformed n d) f t s b b' busy busy' mine h e g = absurd (false≢true g)
-granted_too k p restore f t s b b' busy busy' mine h e g = restore_too k p b b' (ltb p k.parts) busy busy' h g
-granted_too k p save f t s b b' busy busy' mine h e g = save_too k p b b' (ltb p k.parts) mine g
-granted_too k p (work w) f t s b b' busy busy' mine h e g = absurd (both_ways t s.1 (and_parts f t e).1)
-
-only_granted : (f t x g : Bool) → (((f && t) && g) || (f && (x && not t))) ≡ true → (f && t) ≡ true → g ≡ true
-only_granted true true x true h e = refl
-only_granted true true true false h e = h
-only_granted true true false false h e = h
-only_granted true false x g h e = absurd (false≢true e)
-only_granted false t x g h e = absurd (false≢true e)
+granted_too k p restore f t s b b' busy busy' mine h e g = grind arith
+granted_too k p save f t s b b' busy busy' mine h e g = grind arith
+granted_too k p (work w) f t s b b' busy busy' mine h e g = absurd (grind (arith, s.1))
 
 granted_alike : {E : Type 0} (k : Making E) (u : ℕ → Bool) (c : Request) (b b' : Boxes E) → is_left k u c (box_step k c b).answer ≡ true → Alike k u b b' → Shut u b' → GrantedAlike k c b b'
 granted_alike k u c b b' h l s e =
     let a = and_parts (u (part c)) _ h in
-    let g : granted (box_step k c b).answer ≡ true = only_granted (whole c) (turn_kind (kind c)) (ltb (part c) k.parts) _ a.1 e in
+    let g : granted (box_step k c b).answer ≡ true = grind (arith, a.1, e) in
     let g' : granted (box_act k (check k (any k.parts b'.marks) (b.marks (part c)) (part c) (order c)) (part c) (order c) b').answer ≡ true =
     granted_too k (part c) (order c) (whole c) (turn_kind (kind c)) (suits_order c) b b' (any k.parts b.marks) (any k.parts b'.marks) (b.marks (part c))
     (all_shut k u b b' l s) e g in

@@ -1,7 +1,8 @@
 -- The rules that the machine and the separate boxes keep. Assumes nothing.
-use Rattle.std.proofs.Common.{◌≡◌, ℕ, zero, suc, ◌+◌, ◌<◌, ◌≤◌, min, Bool, true, false, cond, ◌&&◌, eqb, ltb, ◌⊎◌, List, [], ◌∷◌, ◌++◌, map, length, get_or, drop, sym, refl, ap, ◌∙◌, subst, inl, inr, not-suc-le-zero, arith, length-append, length-drop}
+use Rattle.std.proofs.Common.{◌≡◌, ℕ, zero, suc, ◌<◌, ◌≤◌, Bool, true, false, cond, ◌&&◌, eqb, List, [], ◌∷◌, map, length, get_or, sym, refl, ap, ◌∙◌, subst, not-suc-le-zero, arith, length-drop}
+use Rattle.std.proofs.lemmas.Grind.{common_steps}
 use mathlib.Core.Path.{fun_ext}
-use Rattle.std.proofs.lemmas.Bool.{eqb-true, eq-eqb, ne_eqb, cond-true, cond-false, or_left, or_right, ltb-true, false≢true, true≢false, cases_eq, both_ways, and_parts, and_from}
+use Rattle.std.proofs.lemmas.Bool.{eqb-true, false≢true, true≢false, both_ways, and_parts}
 use Rattle.cells.specs.Cells.{member, beside}
 use Rattle.queue.specs.Queue.{Queue, empty, appended, taken}
 use Rattle.command.specs.Order.{Work, instruct, send, receive, Order, malformed, restore, save, work}
@@ -14,7 +15,7 @@ use Rattle.isolation.specs.Machine.{State, made, is_open, held_by, act, step}
 use Rattle.isolation.specs.Boxes.{Boxes, box_act}
 use Rattle.isolation.specs.History.{after_all}
 use Rattle.isolation.specs.Rules.{Written, Bounded, Rules}
-use Rattle.isolation.proofs.Tables.{replace_here, replace_there, change_there}
+use Rattle.isolation.proofs.Tables.{replace_there, change_there}
 use Rattle.isolation.proofs.Checks.{passed_part, passed_work, passed_send, passed_receive}
 use Rattle.isolation.proofs.Local.{frame}
 use Rattle.isolation.proofs.Orders.{Suits, suits_order}
@@ -25,20 +26,18 @@ first_value : {E : Type 0} (z : E) (ns : List ℕ) (vs : List E) (i : ℕ) → i
 first_value z [] vs i l f = absurd (not-suc-le-zero l)
 first_value z (n ∷ ns) [] zero l f = refl
 first_value z (n ∷ ns) [] (suc i) l f = refl
-first_value z (n ∷ ns) (v ∷ vs) zero l f = cond-true (eqb n n) v (beside z ns vs n) (eq-eqb n n refl)
-first_value z (n ∷ ns) (v ∷ vs) (suc i) l f =
-    let d : eqb (get_or ns i 0) n ≡ false = ne_eqb (get_or ns i 0) n (λ e. f 0 (omega arith) (sym e)) in
-    cond-false (eqb (get_or ns i 0) n) v (beside z ns vs (get_or ns i 0)) d ∙ (first_value z ns vs i (omega arith) (λ j h e. f (suc j) (omega arith) e))
+first_value z (n ∷ ns) (v ∷ vs) zero l f = grind arith
+first_value z (n ∷ ns) (v ∷ vs) (suc i) l f = grind (arith, f 0 (omega arith), first_value z ns vs i (omega arith) (λ j h e. f (suc j) (omega arith) e))
 
 named_there : (ns : List ℕ) (i : ℕ) → i < length ns → member ns (get_or ns i 0) ≡ true
 named_there [] i l = absurd (not-suc-le-zero l)
-named_there (n ∷ ns) zero l = or_left (eqb n n) (member ns n) (eq-eqb n n refl)
-named_there (n ∷ ns) (suc i) l = or_right (eqb (get_or ns i 0) n) (member ns (get_or ns i 0)) (named_there ns i (omega arith))
+named_there (n ∷ ns) zero l = grind arith
+named_there (n ∷ ns) (suc i) l = grind (arith, named_there ns i (omega arith))
 
 pub written : {E : Type 0} (z : E) (ns : List ℕ) (vs : List E) (m : ℕ → E) → Written z ns vs m (put z ns vs m)
 written z ns vs m = record {
-  named = λ i l f. cond-true (member ns (get_or ns i 0)) (beside z ns vs (get_or ns i 0)) (m (get_or ns i 0)) (named_there ns i l) ∙ first_value z ns vs i l f;
-  others = λ n f. cond-false (member ns n) (beside z ns vs n) (m n) f;
+  named = λ i l f. rw (named_there ns i l) (first_value z ns vs i l f);
+  others = λ n f. rw f;
 }
 
 -- refusals
@@ -66,11 +65,7 @@ refused_act {E} k pass p (work w) s g =
     ∙ ap (λ (q : ℕ → Queue E). record { cells = s.cells; save_rows = s.save_rows; turn = s.turn; queues = q }) e.queues
 
 replace_same : {V : Type 0} (f : ℕ → V) (p : ℕ) (v : V) → v ≡ f p → replace f p v ≡ f
-replace_same {V} f p v e = fun_ext (λ i. go i (cases_eq i p))
-  where
-    go : (i : ℕ) → (i ≡ p) ⊎ (i ≡ p → ⊥) → replace f p v i ≡ f i
-    go i (inl d) = replace_here f v p i d ∙ (e ∙ ap f (sym d))
-    go i (inr d) = replace_there f v p i d
+replace_same f p v e = fun_ext (λ i. grind arith)
 
 refused_box : {E : Type 0} (k : Making E) (v : Verdict) (p : ℕ) (o : Order) (b : Boxes E) → granted (box_act k v p o b).answer ≡ false → (box_act k v p o b).after ≡ b
 refused_box k (fail n d) p o b g = refl
@@ -84,22 +79,19 @@ refused_box {E} k pass p (work w) b g =
     ∙ ap (λ (q : ℕ → Queue E). record { cells = b.cells; marks = b.marks; queues = q }) e.queues
 
 -- turn calls, and what is none
-no_turn : (f t : Bool) → f ≡ true → t ≡ true → (f && t) ≡ false → ⊥
-no_turn f t a b e = both_ways (f && t) e (and_from f t a b)
-
 turn_act : {E : Type 0} (k : Making E) (v : Verdict) (p : ℕ) (o : Order) (f t : Bool) → Suits f t o → (s : State E) → (f && t) ≡ false → (act k v p o s).after.turn ≡ s.turn
 turn_act k (fail n d) p o f t u s e = refl
 turn_act k pass p (malformed n d) f t u s e = refl
-turn_act k pass p restore f t u s e = absurd (no_turn f t u.0 u.1 e)
-turn_act k pass p save f t u s e = absurd (no_turn f t u.0 u.1 e)
+turn_act k pass p restore f t u s e = absurd (grind (arith, u.0, u.1))
+turn_act k pass p save f t u s e = absurd (grind (arith, u.0, u.1))
 turn_act k pass p (work w) f t u s e = refl
 
 unwritten_act : {E : Type 0} (k : Making E) (v : Verdict) (p : ℕ) (o : Order) (f t : Bool) → Suits f t o → (s : State E) (busy mine : Bool) → check k busy mine p o ≡ v → (n : ℕ) →
     (f && t) ≡ false → writable k p n ≡ false → (act k v p o s).after.cells n ≡ s.cells n
 unwritten_act k (fail n d) p o f t u s busy mine c i e h = refl
 unwritten_act k pass p (malformed n d) f t u s busy mine c i e h = refl
-unwritten_act k pass p restore f t u s busy mine c i e h = absurd (no_turn f t u.0 u.1 e)
-unwritten_act k pass p save f t u s busy mine c i e h = absurd (no_turn f t u.0 u.1 e)
+unwritten_act k pass p restore f t u s busy mine c i e h = absurd (grind (arith, u.0, u.1))
+unwritten_act k pass p save f t u s busy mine c i e h = absurd (grind (arith, u.0, u.1))
 unwritten_act k pass p (work w) f t u s busy mine c i e h = frame k p w (passed_work k busy mine p w c) s.cells s.queues i h
 
 record Moved {E : Type 0} (b b' : Boxes E) : Type 0 where
@@ -116,8 +108,8 @@ moved k pass p (work w) f t u b e = absurd (both_ways t u.1 (and_parts f t e).1)
 unmarked : {E : Type 0} (k : Making E) (v : Verdict) (p : ℕ) (o : Order) (f t : Bool) → Suits f t o → (b : Boxes E) → (f && t) ≡ false → (box_act k v p o b).after.marks ≡ b.marks
 unmarked k (fail n d) p o f t u b e = refl
 unmarked k pass p (malformed n d) f t u b e = refl
-unmarked k pass p restore f t u b e = absurd (no_turn f t u.0 u.1 e)
-unmarked k pass p save f t u b e = absurd (no_turn f t u.0 u.1 e)
+unmarked k pass p restore f t u b e = absurd (grind (arith, u.0, u.1))
+unmarked k pass p save f t u b e = absurd (grind (arith, u.0, u.1))
 unmarked k pass p (work w) f t u b e = refl
 
 -- other parts
@@ -141,15 +133,7 @@ record Small {E : Type 0} (q : Queue E) : Type 0 where
   missed : q.missed ≤ 255
 
 small_appended : {E : Type 0} (m : List E) (q : Queue E) → Small q → Small (appended m q)
-small_appended {E} m q s = go (ltb (length q.messages) 8) refl
-  where
-    go : (b : Bool) → ltb (length q.messages) 8 ≡ b →
-        Small (cond b (record { messages = q.messages ++ (m ∷ []); missed = q.missed }) (record { messages = drop 1 q.messages ++ (m ∷ []); missed = min 255 (q.missed + 1) }))
-    go true e = record { messages = omega (arith, ltb-true (length q.messages) 8 e, length-append q.messages (m ∷ [])); missed = s.missed }
-    go false e = record {
-      messages = omega (arith, s.messages, length-append (drop 1 q.messages) (m ∷ []), length-drop 1 q.messages);
-      missed = omega arith;
-    }
+small_appended m q s = record { messages = grind (arith, common_steps, s.messages); missed = grind (arith, s.missed) }
 
 small_taken : {E : Type 0} (q : Queue E) → Small q → Small (taken q)
 small_taken q s = record { messages = omega (arith, s.messages, length-drop 1 q.messages); missed = omega arith }
@@ -196,17 +180,13 @@ bounded_act k pass p restore s busy mine e b = record {
   missed = b.missed;
   ports = b.ports;
 }
-bounded_act {E} k pass p save s busy mine e b = record {
+bounded_act k pass p save s busy mine e b = record {
   turn = λ q h. absurd (false≢true h);
-  save_rows = λ q n f. go q n (eqb q p) f;
+  save_rows = λ q n f. grind (arith, b.save_rows q n f);
   messages = b.messages;
   missed = b.missed;
   ports = b.ports;
 }
-  where
-    go : (q n : ℕ) (x : Bool) → k.swapped n ≡ false → cond x (λ (i : ℕ). cond (k.swapped i) (s.cells i) k.null) (s.save_rows q) n ≡ k.null
-    go q n true f = rw f
-    go q n false f = b.save_rows q n f
 bounded_act k pass p (work w) s busy mine e b =
     let q : Queued (effect k w s.cells s.queues).queues =
     queued_effect k busy mine p w e s.cells s.queues (record { small = λ x. record { messages = b.messages x; missed = b.missed x }; ports = b.ports }) in

@@ -1,6 +1,6 @@
 -- The machine answers as the separate boxes do. Assumes nothing.
-use Rattle.std.proofs.Common.{◌≡◌, ℕ, Bool, true, false, cond, not, eqb, ltb, ◌⊎◌, List, [], ◌∷◌, sym, refl, ap, ◌∙◌, subst, ap₂, inl, inr}
-use Rattle.std.proofs.lemmas.Bool.{cond-true, eqb-true, ne_eqb, ltb-true, false≢true, true≢false, cases_Bool, cases_eq, not-true}
+use Rattle.std.proofs.Common.{◌≡◌, ℕ, Bool, true, false, cond, not, eqb, ltb, ◌⊎◌, List, [], ◌∷◌, sym, refl, ap, ◌∙◌, subst, ap₂, inl, inr, arith}
+use Rattle.std.proofs.lemmas.Bool.{ne_eqb, ltb-true, true≢false, cases_eq, not-true}
 use Rattle.command.specs.Order.{Order, malformed, restore, save, work}
 use Rattle.isolation.specs.Tables.{replace, any}
 use Rattle.isolation.specs.Making.{Making, Exclusive}
@@ -10,7 +10,7 @@ use Rattle.isolation.specs.Effect.{effect}
 use Rattle.isolation.specs.Machine.{Turn, closed, opened, is_open, held_by, State, made, act, step}
 use Rattle.isolation.specs.Boxes.{Boxes, separate, box_act, box_step}
 use Rattle.isolation.specs.History.{log_of, machine_log, box_log}
-use Rattle.isolation.proofs.Tables.{cond_two, replace_here, replace_there, any_here, any_none}
+use Rattle.isolation.proofs.Tables.{replace_here, replace_there, any_here, any_none}
 use Rattle.isolation.proofs.Checks.{when_pass}
 use Rattle.isolation.proofs.Local.{SameEffect, same_effect, frame}
 use Rattle.isolation.proofs.Exclusive.{unshared}
@@ -21,8 +21,8 @@ not_open closed e q = refl
 not_open (opened p) e q = absurd (true≢false e)
 
 held_one : (t : Turn) (p q : ℕ) → held_by t p ≡ true → held_by t q ≡ eqb q p
-held_one closed p q e = absurd (false≢true e)
-held_one (opened r) p q e = ap (eqb q) (sym (eqb-true p r e))
+held_one closed p q e = cc
+held_one (opened r) p q e = grind arith
 
 -- what a part sees: the cells, but its save row in place of the swapped ones while it has not the turn
 abbrev seen : {E : Type 0} → Making E → State E → ℕ → ℕ → E
@@ -43,23 +43,7 @@ record SameStep {E : Type 0} (k : Making E) (x : Step E (State E)) (y : Step E (
   after : Like k x.after y.after
 
 cond_same : {V : Type 0} (b : Bool) (x : V) → cond b x x ≡ x
-cond_same true x = refl
-cond_same false x = refl
-
-cond_tf : (b : Bool) → cond b true false ≡ b
-cond_tf true = refl
-cond_tf false = refl
-
--- a swap in and a swap out change nothing that any part sees
-seen_restored : {V : Type 0} (b e : Bool) (x y c : V) → (e ≡ true → x ≡ y) → cond b y c ≡ cond b (cond e (cond b x c) y) (cond b x c)
-seen_restored true true x y c h = sym (h refl)
-seen_restored true false x y c h = refl
-seen_restored false e x y c h = refl
-
-seen_saved : {V : Type 0} (b e : Bool) (x : V) (g y : ℕ → V) (n : ℕ) → (b ≡ true → x ≡ g n) → cond b (cond e x (y n)) x ≡ cond b (cond e g y n) x
-seen_saved true true x g y n h = h refl
-seen_saved true false x g y n h = refl
-seen_saved false e x g y n h = refl
+cond_same b x = grind arith
 
 like_act : {E : Type 0} (k : Making E) → Exclusive k → (v : Verdict) (p : ℕ) (w : Order) (s : State E) (r : Boxes E) →
     check k (is_open s.turn) (held_by s.turn p) p w ≡ v → Like k s r → SameStep k (act k v p w s) (box_act k v p w r)
@@ -72,20 +56,18 @@ like_act k so pass p restore s r e l =
     record {
       answer = refl;
       after = record {
-        marks = λ q. cond_two (eqb q p) refl (l.marks q ∙ f q) ∙ cond_tf (eqb q p);
+        marks = λ q. grind (arith, l.marks q, f q);
         busy = any_here k.parts p (replace r.marks p true) (ltb-true p k.parts a.0) (replace_here r.marks true p p refl);
         queues = l.queues;
         cells = λ q n t.
-            l.cells q n t
-            ∙ (ap (λ (h : Bool). cond (k.swapped n) (cond h (s.cells n) (s.save_rows q n)) (s.cells n)) (f q)
-            ∙ seen_restored (k.swapped n) (eqb q p) (s.save_rows p n) (s.save_rows q n) (s.cells n) (λ d. ap (λ (z : ℕ). s.save_rows z n) (sym (eqb-true q p d))));
+            grind (arith, l.cells q n t, f q);
       };
     }
 like_act k so pass p save s r e l =
     let a = when_pass (ltb p k.parts) _ _ _ e in
     let b = when_pass (held_by s.turn p) _ _ _ a.1 in
     let f : (q : ℕ) → held_by s.turn q ≡ eqb q p = λ q. held_one s.turn p q b.0 in
-    let g : (q : ℕ) → replace r.marks p false q ≡ false = λ q. ap (cond (eqb q p) false) (l.marks q ∙ f q) ∙ shut (eqb q p) in
+    let g : (q : ℕ) → replace r.marks p false q ≡ false = λ q. grind (arith, l.marks q, f q) in
     record {
       answer = refl;
       after = record {
@@ -93,15 +75,9 @@ like_act k so pass p save s r e l =
         busy = any_none k.parts (replace r.marks p false) (λ q h. g q);
         queues = l.queues;
         cells = λ q n t.
-            l.cells q n t
-            ∙ (ap (λ (h : Bool). cond (k.swapped n) (cond h (s.cells n) (s.save_rows q n)) (s.cells n)) (f q)
-            ∙ seen_saved (k.swapped n) (eqb q p) (s.cells n) (λ n. cond (k.swapped n) (s.cells n) k.null) (s.save_rows q) n (λ z. sym (cond-true (k.swapped n) (s.cells n) k.null z)));
+            grind (arith, l.cells q n t, f q);
       };
     }
-  where
-    shut : (b : Bool) → cond b false b ≡ false
-    shut true = refl
-    shut false = refl
 like_act {E} k so pass p (work w) s r e l =
     let a = when_pass (ltb p k.parts) _ _ _ e in
     let b = when_pass (held_by s.turn p) _ _ _ a.1 in
@@ -134,13 +110,9 @@ like_act {E} k so pass p (work w) s r e l =
     go h ok x own q n t (inl d) =
         ap (λ (f : ℕ → E). f n) (replace_here r.cells m₂ p q d) ∙ (sym (x.cells n (subst (λ (z : ℕ). touchable k z n ≡ true) d t)) ∙ sym (own m₁ q n d))
     go h ok x own q n t (inr d) =
-        ap (λ (f : ℕ → E). f n) (replace_there r.cells m₂ p q d) ∙ (l.cells q n t ∙ other (held_one s.turn p q h ∙ ne_eqb q p d) (cases_Bool (k.swapped n)))
-      where
-        other : held_by s.turn q ≡ false → (k.swapped n ≡ true) ⊎ (k.swapped n ≡ false) →
-            cond (k.swapped n) (cond (held_by s.turn q) (s.cells n) (s.save_rows q n)) (s.cells n)
-            ≡ cond (k.swapped n) (cond (held_by s.turn q) (m₁ n) (s.save_rows q n)) (m₁ n)
-        other f (inl z) = rw (z, f)
-        other f (inr z) = rw z (sym (frame k p w ok s.cells s.queues n (unshared k so p q n z t d)))
+        let f : held_by s.turn q ≡ false = held_one s.turn p q h ∙ ne_eqb q p d in
+        let i : k.swapped n ≡ false → m₁ n ≡ s.cells n = λ z. frame k p w ok s.cells s.queues n (unshared k so p q n z t d) in
+        ap (λ (f : ℕ → E). f n) (replace_there r.cells m₂ p q d) ∙ (l.cells q n t ∙ grind (arith, f, i))
 
 like_step : {E : Type 0} (k : Making E) → Exclusive k → (c : Request) (s : State E) (r : Boxes E) → Like k s r → SameStep k (step k c s) (box_step k c r)
 like_step k so c s r l =

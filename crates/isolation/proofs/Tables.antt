@@ -1,7 +1,7 @@
 -- Facts of tables. Assumes nothing.
-use Rattle.std.proofs.Common.{◌≡◌, ℕ, zero, suc, ◌<◌, Bool, true, false, cond, ◌||◌, ◌⊎◌, List, length, set, sym, refl, ap, ◌∙◌, inl, inr, not-suc-le-zero, arith}
-use Rattle.std.proofs.lemmas.List.{get_or-set_same, get_or-set_other}
-use Rattle.std.proofs.lemmas.Bool.{eq-eqb, ne_eqb, cases_eq, or_left, or_right, or_from}
+use Rattle.std.proofs.Common.{◌≡◌, ℕ, zero, suc, ◌<◌, Bool, true, false, cond, List, length, set, refl, arith}
+use Rattle.std.proofs.lemmas.Grind.{common_steps}
+use Rattle.std.proofs.lemmas.Bool.{eq-eqb, ne_eqb}
 use Rattle.isolation.specs.Tables.{at, replace, change, any}
 
 pub cond_two : {V : Type 0} (b : Bool) {x y x' y' : V} → x ≡ x' → y ≡ y' → cond b x y ≡ cond b x' y'
@@ -18,21 +18,13 @@ pub change_there : {V : Type 0} (f : ℕ → V) (g : V → V) (n i : ℕ) → (i
 change_there f g n i h = rw (ne_eqb i n h)
 
 pub any_here : (n p : ℕ) (f : ℕ → Bool) → p < n → f p ≡ true → any n f ≡ true
-any_here zero p f h e = absurd (not-suc-le-zero h)
-any_here (suc n) p f h e = go (λ l. any_here n p f l e) (cases_eq p n)
-  where
-    go : (p < n → any n f ≡ true) → (p ≡ n) ⊎ (p ≡ n → ⊥) → (f n || any n f) ≡ true
-    go ih (inl d) = or_left (f n) (any n f) (ap f (sym d) ∙ e)
-    go ih (inr d) = or_right (f n) (any n f) (ih (omega (arith, d)))
+any_here zero p f h e = grind arith
+any_here (suc n) p f h e = grind (arith, any_here n p f)
 
 pub any_none : (n : ℕ) (f : ℕ → Bool) → ((q : ℕ) → q < n → f q ≡ false) → any n f ≡ false
 any_none zero f h = refl
-any_none (suc n) f h = or_from (f n) (any n f) (h n (omega arith)) (any_none n f (λ q l. h q (omega arith)))
+any_none (suc n) f h = grind (arith, h n, any_none n f (λ q l. h q (omega arith)))
 
 -- a list with one value set is the table with that value replaced
 pub at_set : {V : Type 0} (z : V) (l : List V) (i : ℕ) (v : V) → i < length l → (n : ℕ) → at z (set l i v) n ≡ replace (at z l) i v n
-at_set z l i v h n = go (cases_eq n i)
-  where
-    go : (n ≡ i) ⊎ (n ≡ i → ⊥) → at z (set l i v) n ≡ replace (at z l) i v n
-    go (inl d) = rw (eq-eqb n i d) (ap (at z (set l i v)) d ∙ get_or-set_same l i v z h)
-    go (inr d) = rw (ne_eqb n i d) (get_or-set_other l i n v z d)
+at_set z l i v h n = grind (arith, common_steps)

@@ -1,4 +1,4 @@
-// Plays show files on a host made from a setup text.
+// Plays show files on a host made from a setup text. `playback_heads` is the same program: each crate is run once by the gate, with its own words.
 #![tactic(auto)]
 
 use program::playback::playback;
