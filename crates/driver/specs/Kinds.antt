@@ -10,16 +10,15 @@ use Rattle.sets.specs.declared.level_set.LevelSet.{LevelSet}
 use Rattle.sets.specs.declared.head_set.HeadSet.{HeadSet}
 use Rattle.sets.specs.LevelMeaning.{level_meaning}
 use Rattle.sets.specs.HeadMeaning.{head_meaning}
-use Rattle.sets.specs.Few.{level_few, head_few}
 
 abbrev pub levels : Elements Level
 levels = record { blank = level 0; packed = level_words; unpacked = words_level }
 
 abbrev pub level_codes : Sets LevelSet Level
-level_codes = record { meaning = λ s. level_meaning; few = λ s code xs vs e. level_few code xs vs e }
+level_codes = record { meaning = λ s. level_meaning }
 
 abbrev pub heads : Elements Head
 heads = record { blank = head 0 0 Open; packed = head_words; unpacked = words_head }
 
 abbrev pub head_codes : Sets HeadSet Head
-head_codes = record { meaning = λ s. head_meaning; few = λ s code xs vs e. head_few code xs vs e }
+head_codes = record { meaning = λ s. head_meaning }

@@ -17,10 +17,7 @@ impl Default for HeldWrite {
     fn default() -> HeldWrite {
         HeldWrite {
             cell: 0,
-            words: Words {
-                first: 0,
-                second: 0,
-            },
+            words: Words::ZERO,
         }
     }
 }

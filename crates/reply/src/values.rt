@@ -9,11 +9,7 @@ use element::words::Words;
 fn words_at<E: Element>(values: &[E], i: usize) -> Words
     ensures { result ≡ words_at E.packed values.now i }
 {
-    let none = Words {
-        first: 0,
-        second: 0,
-    };
-    values.get(i).map_or(none, |value| value.pack())
+    values.get(i).map_or(Words::ZERO, |value| value.pack())
 }
 
 // The answer of work that gave values; a record has room for four.

@@ -1,6 +1,6 @@
 ghost use Rattle.std.specs.Prelude.{◌≡◌, Some};
 ghost use Rattle.rig.specs.declared.problem.Problem.TheVariants.{Line, Port, Sheet};
-ghost use Rattle.rig.specs.Texts.{error_text, problem_text, sheet_text};
+ghost use Rattle.rig.specs.Texts.{error_text, problem_text};
 
 use port::refusal::PortRefusal;
 use setup::problem::LineProblem;
@@ -61,20 +61,6 @@ pub struct SetupError {
     pub problem: Problem,
 }
 
-// Why the sheet refuses, in words.
-fn sheet_reason(why: Refusal) -> &'static str
-    ensures { result.now ≡ sheet_text why }
-{
-    match why {
-        Refusal::Part => "the part is over 7",
-        Refusal::Size => "the number of cells is 0 or over 512",
-        Refusal::Cell => "the cell is beyond the cells",
-        Refusal::Taken => "the cell is swapped, or a part has it",
-        Refusal::Full => "16 cells are swapped already",
-        Refusal::Mode => "the mode is over 3",
-    }
-}
-
 // The problem in words; a refusal with its number.
 impl fmt::Display for Problem {
     ghost output = { λ p. Some (problem_text p) };
@@ -84,15 +70,8 @@ impl fmt::Display for Problem {
             Problem::Line(problem) => write!(f, "{problem}"),
             Problem::Repeated => write!(f, "this directive stands a second time"),
             Problem::Early => write!(f, "`cells` has to stand before this line"),
-            Problem::Sheet(why) => {
-                let number = why.number();
-                let reason = sheet_reason(why);
-                write!(f, "refusal {number}: {reason}")
-            }
-            Problem::Port(why) => {
-                let number = why.number();
-                write!(f, "refusal {number}: the port is over 15")
-            }
+            Problem::Sheet(why) => write!(f, "refusal {}: {why}", why.number()),
+            Problem::Port(why) => write!(f, "refusal {}: {why}", why.number()),
             Problem::Beyond => write!(f, "refusal 20: the cell is beyond the cells"),
             Problem::NoKind => write!(f, "the text ends without a `kind`"),
             Problem::NoCells => write!(f, "the text ends without a `cells`"),
@@ -105,8 +84,6 @@ impl fmt::Display for SetupError {
     ghost output = { λ e. Some (error_text e) };
 
     fn fmt<W: fmt::Write>(&self, f: &mut fmt::Formatter<W>) -> fmt::Result {
-        let line = self.line;
-        let problem = self.problem;
-        write!(f, "line {line}: {problem}")
+        write!(f, "line {}: {}", self.line, self.problem)
     }
 }

@@ -13,10 +13,7 @@ impl Message {
         ensures { elements result ≡ [] }
     {
         Message {
-            words: [Words {
-                first: 0,
-                second: 0,
-            }; ELEMENTS],
+            words: [Words::ZERO; ELEMENTS],
             len: 0,
         }
     }

@@ -37,10 +37,7 @@ impl Draft {
             layers: None,
             sheet: None,
             ports: Ports::new(),
-            elements: [Words {
-                first: 0,
-                second: 0,
-            }; 512],
+            elements: [Words::ZERO; 512],
         }
     }
 

@@ -15,10 +15,7 @@ impl SaveRow {
         ensures { result.words ≡ replicate 16 (pair 0 0) }
     {
         SaveRow {
-            words: [Words {
-                first: 0,
-                second: 0,
-            }; 16],
+            words: [Words::ZERO; 16],
         }
     }
 }
@@ -40,10 +37,7 @@ pub fn swap_out<S: Store>(store: &mut S, swaps: &[usize]) -> SaveRow
     ensures store { Unaltered S.Store store.old store.new }
     ensures row { Saved S.Item.Element (S.Store.cells store.old) (take 16 swaps.now) result }
 {
-    let mut words = [Words {
-        first: 0,
-        second: 0,
-    }; 16];
+    let mut words = [Words::ZERO; 16];
     let taken = swaps.len().min(16);
     for i in 0..taken {
         words[i] = read_or_null(store, swaps[i]).pack();
