@@ -66,7 +66,10 @@ fn heads_come_back(rt: HostRuntime) {
     assert_eq!(rt; Head::unpack(last.pack()), last);
     assert_eq!(rt;
         Head::null().pack(),
-        Words::ZERO
+        Words {
+            first: 0,
+            second: 0,
+        }
     );
 }
 
