@@ -1,7 +1,7 @@
 -- Numbers and words in columns. Assumes nothing.
-use Rattle.std.proofs.Common.{◌≡◌, ℕ, zero, suc, ◌-◌, ◌^◌, false, List, [], ◌∷◌, ◌++◌, length, replicate, Result, Ok, Err, Option, Some, None, decimal, codes, refl, ap, ap₂, ◌∙◌, arith, append-nil}
+use Rattle.std.proofs.Common.{◌≡◌, ℕ, zero, suc, ◌-◌, ◌^◌, false, List, [], ◌∷◌, ◌++◌, length, replicate, Result, Ok, Err, codes, refl, ap, ap₂, ◌∙◌, arith, append-nil}
 use Rattle.std.proofs.lemmas.Bool.Decides.{nat_tests}
-use Rattle.std.specs.Fmt.{styled_decimal, styled_text, padded_integral, padded, format_spec, char_count, take_chars}
+use Rattle.std.specs.Fmt.{styled_text, padded_integral, padded, format_spec, char_count, take_chars}
 use Rattle.std.specs.List.{repeat}
 use Rattle.std.specs.Result.{result_ok}
 use Rattle.command.specs.Shape.{known}

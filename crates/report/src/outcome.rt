@@ -1,6 +1,6 @@
 // What a command was answered, in words.
 ghost use Rattle.std.specs.Prelude.{◌≡◌, ◌<◌, Some};
-ghost use Rattle.report.specs.Outcomes.{value_at, value_text, missed_text, outcome_text};
+ghost use Rattle.report.specs.Outcomes.{before, value_at, missed_text, outcome_text};
 
 use command::log::LogRecord;
 use element::element::Element;
@@ -9,42 +9,22 @@ use std::fmt;
 use std::marker::PhantomData;
 use wording::refusal::RefusalNumber;
 
-// A value in its list: the first stands after a colon, the others after a semicolon.
-#[derive(Clone, Copy)]
-enum Value<E> {
-    First(E),
-    Later(E),
-    Absent,
-}
-
-impl<E: fmt::Display> fmt::Display for Value<E> {
-    ghost output = { value_text E.Display.output };
-
-    fn fmt<W: fmt::Write>(&self, f: &mut fmt::Formatter<W>) -> fmt::Result {
-        match self {
-            Value::First(x) => write!(f, ": {x}"),
-            Value::Later(x) => write!(f, "; {x}"),
-            Value::Absent => Ok(()),
-        }
-    }
+// What stands before value `i`.
+fn before(i: usize) -> &'static str
+    ensures { result.now ≡ before i }
+{
+    if i == 0 { ": " } else { "; " }
 }
 
 // Value `i` of a record.
-fn value_at<E: Element>(r: &LogRecord, i: usize) -> Value<E>
+fn value_at<E: Element>(r: &LogRecord, i: usize) -> E
     requires { i < 4 }
     ensures { result ≡ value_at E.unpacked r.now i }
 {
-    if i >= r.count as usize {
-        return Value::Absent;
-    }
-    let x = E::unpack(Words {
+    E::unpack(Words {
         first: r.words[2 * i],
         second: r.words[2 * i + 1],
-    });
-    if i == 0 {
-        return Value::First(x);
-    }
-    Value::Later(x)
+    })
 }
 
 // How many messages were missed, where there were any.
@@ -84,10 +64,12 @@ impl<E: Element + fmt::Display> fmt::Display for Outcome<E> {
             return write!(f, "{refusal}");
         }
         let missed = Missed(r.missed);
-        let a = value_at::<E>(&r, 0);
-        let b = value_at::<E>(&r, 1);
-        let c = value_at::<E>(&r, 2);
-        let d = value_at::<E>(&r, 3);
-        write!(f, "done{missed}{a}{b}{c}{d}")
+        write!(f, "done{missed}")?;
+        for i in 0..usize::from(r.count).min(4) {
+            let before = before(i);
+            let x = value_at::<E>(&r, i);
+            write!(f, "{before}{x}")?;
+        }
+        Ok(())
     }
 }

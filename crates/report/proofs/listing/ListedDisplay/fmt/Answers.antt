@@ -1,4 +1,4 @@
-use Rattle.std.proofs.Common.{◌≡◌, ℕ, ◌++◌, codes, decimal, refl, ap, ◌∙◌, rules, slice_get}
+use Rattle.std.proofs.Common.{◌≡◌, ◌++◌, codes, decimal, refl, ap, ◌∙◌}
 use Rattle.std.specs.Fmt.{styled_decimal}
 use Rattle.std.proofs.Output.{has_written_of_eq}
 use Rattle.command.specs.Commands.{order_of, number_of, detail_of, malformed_text}

@@ -1,7 +1,7 @@
-use Rattle.std.proofs.Common.{◌≡◌, ℕ, List, Option, Some, decimal, codes, subst, ap, ap₂, ◌∙◌, rules}
+use Rattle.std.proofs.Common.{◌≡◌, ℕ, List, Option, decimal, subst, ap, ap₂, ◌∙◌}
 use Rattle.std.specs.Fmt.{DisplaysOnOk, styled_decimal, styled_text}
 use Rattle.wording.specs.Reasons.{name_text}
-use Rattle.report.specs.Rows.{right, left, kind_text_of, row_text}
+use Rattle.report.specs.Rows.{right, left, kind_text_of}
 use Rattle.report.proofs.Columns.{to_right, named}
 use Rattle.report.proofs.row.RowDisplay.fmt.Goals as goal
 
