@@ -15,6 +15,7 @@ pub fn parse(text: &str) -> Result<Setup, SetupError>
     ensures asked { IfOk result (λ s. Asked text.now (plain_of s)) }
 {
     let mut draft = Draft::new();
+    // Counted here and not by `enumerate`, since the number of the last line is told at the end too.
     let mut line = 0;
     for written in Lines(text.as_bytes()) {
         line += 1;

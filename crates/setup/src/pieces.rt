@@ -8,7 +8,7 @@ ghost use Rattle.setup.specs.declared.problem.LineProblem.TheVariants.{MissingWo
 
 use crate::problem::LineProblem;
 
-// How many characters in front pass a test.
+// How many characters in front pass a test, all of them where none fails.
 fn count_front<F: Fn(u8) -> bool>(text: &[u8], passes: F) -> usize
     requires { F.IsAlwaysCallable passes }
     ensures value { (p : ℕ → Bool) → ((c : ℕ) (b : Bool) → F.post passes c b → b ≡ p c) → result ≡ front p text.now }
@@ -21,7 +21,7 @@ fn count_front<F: Fn(u8) -> bool>(text: &[u8], passes: F) -> usize
 fn is_blank(c: u8) -> bool
     ensures { result ≡ blank c }
 {
-    c == b' ' || c == b'\t' || c == b'\r'
+    matches!(c, b' ' | b'\t' | b'\r')
 }
 
 // The text from its first word on.
