@@ -26,7 +26,7 @@ none : exclusive 0 0 ≡ true
 unfolding lib.Count.ones
 none = refl
 
-each_exclusive : (xs : List Rights) (c : ℕ) → exclusive (get_or (reads xs) c 0) (get_or (writes xs) c 0) ≡ true
+pub each_exclusive : (xs : List Rights) (c : ℕ) → exclusive (get_or (reads xs) c 0) (get_or (writes xs) c 0) ≡ true
 each_exclusive [] c = none
 each_exclusive (x ∷ xs) zero = x.exclusive
 each_exclusive (x ∷ xs) (suc c) = each_exclusive xs c
