@@ -6,6 +6,8 @@ use Rattle.instruction.specs.declared.fault.SetFault.{SetFault}
 use Rattle.instruction.specs.declared.set.InstructionSet.{Ghosts as Sets}
 use Rattle.store.specs.declared.store.Store.{Ghosts as Stores}
 use Rattle.sheet.specs.declared.sheet.Sheet.{Sheet}
+use Rattle.sheet.specs.Sound.{reads, writes}
+use Rattle.sheet.proofs.Keeps.{each_exclusive}
 use Rattle.sheet.proofs.Members.{member_place}
 use Rattle.port.specs.declared.ports.Ports.{Ports}
 use Rattle.command.specs.declared.log.LogRecord.{LogRecord}
@@ -23,10 +25,10 @@ use Rattle.host.specs.Commands.{Commanded}
 -- the sheet's type makes every making exclusive
 pub exclusive_of : {E : Type 0} (z : E) (f : ℕ → List E → Result (List E) SetFault) (sheet : Sheet) (ports : Ports) (m : ℕ → E) → Exclusive (making_with z f sheet ports m)
 exclusive_of z f sheet ports m = record {
-  single = sheet.exclusive;
+  single = each_exclusive sheet.rights;
   bare = λ n t.
       let i = member_place sheet.swapped sheet.count n t in
-      (ap (λ (x : ℕ). get_or sheet.read x 0) (sym i.2) ∙ sheet.unread i.0 i.1, ap (λ (x : ℕ). get_or sheet.write x 0) (sym i.2) ∙ sheet.unwritten i.0 i.1);
+      (ap (λ (x : ℕ). get_or (reads sheet.rights) x 0) (sym i.2) ∙ sheet.unread i.0 i.1, ap (λ (x : ℕ). get_or (writes sheet.rights) x 0) (sym i.2) ∙ sheet.unwritten i.0 i.1);
 }
 
 pub shown : {E : Type 0} (p : E → Words) (k : Making E) → Exclusive k → (h : List Request) (c : Request) (r : LogRecord) → r ≡ record_of p (entry c (answer_after k h c)) → Shown p k h c r
