@@ -24,7 +24,7 @@ pub struct Host<S: Store, I: InstructionSet<S::Item>> {
     queues: Queues,
 }
 
-// What making gives: a host always, and a refusal where store and sheet differ in size.
+// What making gives: a host always, and a refusal where store and sheet differ in size. It is no Result, since both are given.
 #[derive(Drop)]
 pub struct Made<S: Store, I: InstructionSet<S::Item>> {
     pub host: Host<S, I>,
@@ -32,7 +32,7 @@ pub struct Made<S: Store, I: InstructionSet<S::Item>> {
 }
 
 // What a host keeps beside its store and its set, so that it can go on later: the sheet, the port sets, the save rows, the queues, and the
-// turn, as whether it is held and by which part. A caller in another language holds it, so it has no enum.
+// turn, as whether it is held and by which part. A caller in another language holds it, so it has no Option.
 #[repr(C)]
 #[derive(Clone, Copy)]
 pub struct Kept {

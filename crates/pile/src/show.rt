@@ -11,6 +11,9 @@ use showfile::file::ShowFile;
 use store::store::Store;
 
 // A run on the host that goes on over this store, which is given back; `ended` is how the run ended.
+// `ended` is lent, and not given back beside the store: in a pair it stays open that a lent store is the one that was lent.
+// The lists stay apart: in a struct they are lent once more, and the search does not find that they are the caller's. Of what a closure writes
+// nothing is known after its call.
 fn run_bare<S: Store, I: InstructionSet<S::Item> + Drop>(
     store: S,
     set: I,
@@ -47,7 +50,7 @@ fn run_held<S: Store, I: InstructionSet<S::Item> + Drop>(
     layer.close()
 }
 
-// The same through so many layers, at most two.
+// The same through so many layers, at most two. Each layer makes another type of store, so there is no recursion.
 fn run_piled<S: Store, I: InstructionSet<S::Item> + Drop>(
     layers: u8,
     store: S,

@@ -42,21 +42,7 @@ pub record Going {S I E : Type 0} (st : Stores S E) (el : Elements E) (is : Sets
   pub results_left : Left n results0 results
 
 module _ {S I E : Type 0} (st : Stores S E) (el : Elements E) (is : Sets I E) (bs ps : List ℕ) (h0 : Host S I E) (old : List LogRecord) (args0 results0 : List E) where
-  pub going_none : length ps ≤ length old → Going st el is bs ps h0 old args0 results0 ps 0 h0 old args0 results0
-  going_none r = record {
-    room = r;
-    long = refl;
-    within = omega arith;
-    left_is = refl;
-    filled = λ m. filled_none (host_step (fits_of st el h0) (making_of el is h0 m)) (record_of el.packed) (state_of st el h0) old ps (request_at bs (length args0) (length results0));
-    making = λ m. refl;
-    fits = refl;
-    lender = refl;
-    args_left = record { long = refl; untouched = λ z. refl };
-    results_left = record { long = refl; untouched = λ z. refl };
-  }
-
-  pub to_come : (left left' : List ℕ) (n p : ℕ) (h : Host S I E) (new : List LogRecord) (args results : List E) →
+  to_come : (left left' : List ℕ) (n p : ℕ) (h : Host S I E) (new : List LogRecord) (args results : List E) →
       Going st el is bs ps h0 old args0 results0 left n h new args results → left ≡ p ∷ left' → n < length ps
   to_come left left' n p h new args results w e = omega (arith, simp length-drop at (ap length (sym e ∙ w.left_is)))
 

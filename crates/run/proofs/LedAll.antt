@@ -61,7 +61,3 @@ module _ {S I E : Type 0} (st : Stores S E) (el : Elements E) (is : Sets I E) (x
       state = did.state k.cells ∙ (ap₂ (λ (f : Request → State E → Step E (State E)) (s : State E). after_all f s cs) (taken_is k h led) led.state ∙ sym (after_append (step k) (made k) h cs));
     };
   }
-
--- a run that is refused, or of no commands
-pub ran_none : {S I E : Type 0} (st : Stores S E) (el : Elements E) (is : Sets I E) (x : Host S I E) (l : List LogRecord) → Ran st el is x x [] l l
-ran_none st el is x l = ran st el is x x [] l l (record { log = λ m. refl; state = λ m. refl; making = λ m. refl; fits = refl })

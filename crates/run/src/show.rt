@@ -13,7 +13,8 @@ use instruction::set::InstructionSet;
 use showfile::file::ShowFile;
 use store::store::Store;
 
-// One command, with the first eight and four places of the scratch, which is enough: so a long scratch costs no more.
+// One command, with the first eight and four places of the scratch, which is enough: so a long scratch costs no more. They are no arrays: eight
+// elements of any kind at all are not known to fit the memory.
 fn do_one<S: Store, I: InstructionSet<S::Item>>(
     host: &mut Host<S, I>,
     place: u16,
@@ -29,7 +30,8 @@ fn do_one<S: Store, I: InstructionSet<S::Item>>(
     host.command(place as u32, bytes, &mut args[0..8], &mut results[0..4])
 }
 
-// Each command of the chain, in chain order.
+// Each command of the chain, in chain order. The log is written by its index: of a list that was walked by `iter_mut` and `zip` the elements are
+// not known afterwards.
 fn play<S: Store, I: InstructionSet<S::Item>>(
     host: &mut Host<S, I>,
     file: ShowFile,

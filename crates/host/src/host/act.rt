@@ -135,7 +135,8 @@ impl<S: Store, I: InstructionSet<S::Item>> Host<S, I> {
         values(taken.missed, &results[0..many])
     }
 
-    // What a command that passed the checks does.
+    // What a command that passed the checks does. The scratch is no array of eight and of four here: eight elements of any kind at all are not
+    // known to fit the memory.
     fn perform(
         &mut self,
         part: Part,
