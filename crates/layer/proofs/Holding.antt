@@ -1,15 +1,14 @@
-use Rattle.std.proofs.Common.{◌≡◌, ℕ, zero, suc, ◌+◌, ◌-◌, ◌<◌, ◌≤◌, Bool, true, false, not, eqb, ◌≢◌, List, [], ◌∷◌, ◌++◌, length, get_or, take, drop, set, Some, None, Option, Ok, sym, refl, ap, ◌∙◌, subst, inl, inr, arith, length-set, length-take}
-use Rattle.element.specs.Pairs.{pair}
+use Rattle.std.proofs.Common.{◌≡◌, ℕ, zero, suc, ◌+◌, ◌-◌, ◌<◌, ◌≤◌, Bool, true, false, not, eqb, ◌≢◌, List, [], ◌∷◌, ◌++◌, length, get_or, take, drop, set, Some, None, Option, Ok, sym, refl, ap, ◌∙◌, subst, inl, inr, arith, length-set}
 use Rattle.element.specs.declared.words.Words.{Words}
-use Rattle.std.proofs.lemmas.List.{take_more_set, take_all, take-append-le, set-set, set_comm}
-use Rattle.std.proofs.lemmas.Bool.{and_parts, and_from, and_left, and_right, eqb-true, eqb-false, eq-eqb, ne_eqb, not-true, not_from_true, not_from_false, cond_both, cond-true, cond-false, cases_eq}
+use Rattle.std.proofs.lemmas.List.{take_all, take-append-le, set-set, set_comm}
+use Rattle.std.proofs.lemmas.Bool.{and_parts, and_from, and_left, and_right, eqb-true, eqb-false, eq-eqb, ne_eqb, not-true, not_from_true, not_from_false, cond_both, cond-true, cond-false, cases_eq, lt-ltb}
 use Rattle.std.specs.Option.{is_some}
 use Rattle.std.specs.List.{position, position_from, refill}
 use Rattle.std.proofs.lemmas.Iterator.Adapters.{position_from-zero}
 use Rattle.store.specs.Meaning.{element}
 use Rattle.store.proofs.Within.{element_set_same, element_set_other}
 use Rattle.layer.specs.declared.held_write.HeldWrite.{HeldWrite}
-use Rattle.layer.specs.Holds.{absent, apart, held_for, placed, seventeenth, laid}
+use Rattle.layer.specs.Holds.{absent, apart, inside, held_for, placed, seventeenth, laid}
 
 -- the tests, as facts
 pub absent_parts : (n : ℕ) (e : HeldWrite) (es : List HeldWrite) → absent n (e ∷ es) ≡ true → (e.cell ≡ n → ⊥) × (absent n es ≡ true)
@@ -21,11 +20,6 @@ absent_from n e es ne t = and_from _ _ (not_from_false _ (ne_eqb e.cell n ne)) t
 
 pub apart_parts : (e : HeldWrite) (es : List HeldWrite) → apart (e ∷ es) ≡ true → (absent e.cell es ≡ true) × (apart es ≡ true)
 apart_parts e es h = and_parts _ _ h
-
-pub absent_push : (n : ℕ) (es : List HeldWrite) (e : HeldWrite) → absent n es ≡ true → (e.cell ≡ n → ⊥) → absent n (es ++ e ∷ []) ≡ true
-absent_push n [] e h ne = absent_from n e [] ne refl
-absent_push n (x ∷ es) e h ne =
-    let p = absent_parts n x es h in absent_from n x (es ++ e ∷ []) p.0 (absent_push n es e p.1 ne)
 
 -- the first write to cell n is at place i
 abbrev pub HeldAt : ℕ → ℕ → List HeldWrite → Type 0
@@ -113,6 +107,15 @@ apart_placed (x ∷ es) e h =
     (λ t. and_from _ _ (rw (← eqb-true x.cell e.cell t) p.0) p.1)
     (λ t. and_from _ _ (absent_placed x.cell es e p.0 (λ q. eqb-false x.cell e.cell t (sym q))) (apart_placed es e p.1))
 
+-- a write below the size is held among writes below the size
+pub inside_placed : (k : ℕ) (es : List HeldWrite) (e : HeldWrite) → inside k es ≡ true → e.cell < k → inside k (placed es e) ≡ true
+inside_placed k [] e h l = and_from _ _ (lt-ltb e.cell k l) refl
+inside_placed k (x ∷ es) e h l =
+    let p = and_parts _ _ h in
+    cond_both (eqb x.cell e.cell) (e ∷ es) (x ∷ placed es e) (λ t. inside k t ≡ true)
+    (λ _. and_from _ _ (lt-ltb e.cell k l) p.1)
+    (λ _. and_from _ _ p.0 (inside_placed k es e p.1 l))
+
 -- the meaning of the held writes
 module _ {X : Type 0} (f : Words → X) where
   pub length-laid : (xs : List X) (es : List HeldWrite) → length (laid f xs es) ≡ length xs
@@ -138,39 +141,6 @@ module _ {X : Type 0} (f : Words → X) where
       ∙ sym (ap (λ l. set l e.cell (f e.words)) (ap (λ m. laid f (set xs m (f x.words)) es) q ∙ laid_set xs e.cell (f x.words) es a)
       ∙ set-set (laid f xs es) e.cell _ _))
       (λ _. laid_placed (set xs x.cell (f x.words)) es e p.1)
-
--- the first of the held, and the others after a turn of the whole table by one
-pub take_first : (es : List HeldWrite) (n : ℕ) (d : HeldWrite) → 0 < n → n ≤ length es → take n es ≡ get_or es 0 d ∷ take (n - 1) (drop 1 es ++ take 1 es)
-take_first [] n d h l = absurd (omega arith)
-take_first (e ∷ es) zero d h l = absurd (omega arith)
-take_first (e ∷ es) (suc n) d h l =
-    let k : n ≤ length es = omega arith in
-    let q : suc n - 1 ≡ n = omega arith in
-    rw q (ap (λ t. e ∷ t) (sym (take-append-le n es (e ∷ []) k)))
-
-pub take_of_set : {X : Type 0} (n : ℕ) (xs : List X) (i : ℕ) (a : X) → take n (set xs i a) ≡ set (take n xs) i a
-take_of_set zero xs i a = refl
-take_of_set (suc n) [] i a = refl
-take_of_set (suc n) (x ∷ xs) zero a = refl
-take_of_set (suc n) (x ∷ xs) (suc i) a = ap (λ t. x ∷ t) (take_of_set n xs i a)
-
--- the table's array and count
-pub split_first : (es ts : List HeldWrite) (n : ℕ) (d : HeldWrite) → 0 < n → n ≤ length es → ts ≡ drop 1 es ++ take 1 es → take n es ≡ get_or es 0 d ∷ take (n - 1) ts
-split_first es ts n d h l q = take_first es n d h l ∙ ap (λ t. get_or es 0 d ∷ take (n - 1) t) (sym q)
-
-pub apart_rest : (es ts : List HeldWrite) (n : ℕ) → 0 < n → n ≤ length es → ts ≡ drop 1 es ++ take 1 es → apart (take n es) ≡ true → apart (take (n - 1) ts) ≡ true
-apart_rest es ts n h l q a =
-    let d : HeldWrite = record { cell = 0; words = pair 0 0 } in
-    (apart_parts (get_or es 0 d) (take (n - 1) ts) (ap apart (sym (split_first es ts n d h l q)) ∙ a)).1
-
-pub held_below : (n i k m : ℕ) (es : List HeldWrite) → HeldAt n i (take k es) → k ≤ m → i < m
-held_below n i k m es h l = let p = held_at_less n i (take k es) h in omega (arith, simp length-take at p)
-
-pub put_in_place : (es : List HeldWrite) (k i : ℕ) (e : HeldWrite) → HeldAt e.cell i (take k es) → take k (set es i e) ≡ placed (take k es) e
-put_in_place es k i e h = take_of_set k es i e ∙ sym (placed_at e.cell i (take k es) e h refl)
-
-pub put_last : (es : List HeldWrite) (k : ℕ) (e : HeldWrite) → absent e.cell (take k es) ≡ true → k < length es → take (k + 1) (set es k e) ≡ placed (take k es) e
-put_last es k e a l = take_more_set es k e l ∙ sym (placed_new (take k es) e a)
 
 -- what is held for a cell
 pub held_not_absent : (n i : ℕ) (es : List HeldWrite) → HeldAt n i es → absent n es ≡ false

@@ -1,5 +1,5 @@
 -- Lists of held writes, the longest-held first. Assumes nothing.
-use Rattle.std.specs.Prelude.{ℕ, Bool, true, cond, not, ◌&&◌, List, [], ◌∷◌, length, Some, None, Option, ◌==◌, slice_set}
+use Rattle.std.specs.Prelude.{ℕ, Bool, true, cond, not, ◌&&◌, List, [], ◌∷◌, length, Some, None, Option, ◌==◌, slice_set, nat_lt}
 use Rattle.element.specs.declared.words.Words.{Words}
 use Rattle.layer.specs.declared.held_write.HeldWrite.{HeldWrite}
 
@@ -12,6 +12,11 @@ absent n (w ∷ ws) = not (w.cell == n) && absent n ws
 abbrev pub apart : List HeldWrite → Bool
 apart [] = true
 apart (w ∷ ws) = absent w.cell ws && apart ws
+
+-- every held cell is below s
+abbrev pub inside : ℕ → List HeldWrite → Bool
+inside s [] = true
+inside s (w ∷ ws) = nat_lt w.cell s && inside s ws
 
 -- what is held for cell n
 abbrev pub held_for : ℕ → List HeldWrite → Option Words

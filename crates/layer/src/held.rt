@@ -1,8 +1,7 @@
-ghost use Rattle.std.specs.Prelude.{◌≡◌, ℕ, ◌<◌, List, [], length};
+ghost use Rattle.std.specs.Prelude.{◌≡◌, ℕ, ◌<◌, true, List, [], length};
 ghost use Rattle.store.specs.Meaning.{Reads, Writes};
-ghost use Rattle.layer.specs.Holds.{outgoing};
+ghost use Rattle.layer.specs.Holds.{inside, outgoing};
 ghost use Rattle.layer.specs.Layers.{held_in, Transparent};
-ghost use Rattle.layer.specs.Steps.{meant, SentDown, TakesRead, TakesWrite, Flushes, Closes};
 
 use crate::held_write::HeldWrite;
 use crate::table::Table;
@@ -14,9 +13,12 @@ use store::store::Store;
 pub struct Held<S: Store> {
     below: S,
     table: Table,
+    ghost within: { inside (length (S.cells below)) (held_in table) ≡ true },
 }
 
 impl<S: Store> Held<S> {
+    ghost use Rattle.layer.specs.Steps.{SentDown, Flushes, Closes};
+
     // A layer that holds nothing.
     pub fn new(below: S) -> Held<S>
         ensures below { result.below ≡ below }
@@ -69,6 +71,8 @@ impl<S: Store> Held<S> {
 }
 
 impl<S: Store> Store for Held<S> {
+    ghost use Rattle.layer.specs.Steps.{meant, TakesRead, TakesWrite};
+
     type Item = S::Item;
 
     ghost cells = { λ h. meant S.Store S.Item.Element h };
@@ -83,7 +87,7 @@ impl<S: Store> Store for Held<S> {
         ensures reads { Reads (meant S.Store S.Item.Element self.old) n result
             (meant S.Store S.Item.Element self.new) }
         ensures lender { S.Store.lender self.new.below ≡ S.Store.lender self.old.below }
-        ensures layer { TakesRead S.Store self.old self.new n }
+        ensures layer { TakesRead S.Store S.Item.Element self.old self.new n }
     {
         if n >= self.below.len() {
             return Err(StoreFault::Beyond);

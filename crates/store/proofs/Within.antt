@@ -3,6 +3,7 @@ use Rattle.std.proofs.Common.{◌≡◌, ℕ, zero, suc, ◌<◌, ◌≤◌, Lis
 use Rattle.std.proofs.lemmas.List.{set_past}
 use Rattle.std.proofs.lemmas.Bool.{lt-ltb, le-ltb}
 use Rattle.std.specs.Option.{ok_or, option_copied}
+use Rattle.std.specs.Result.{result_unwrap_or}
 use Rattle.std.specs.Slice.{IsItemAt}
 use Rattle.store.specs.declared.fault.StoreFault.{StoreFault}
 use Rattle.store.specs.declared.fault.StoreFault.TheVariants.{Beyond}
@@ -60,13 +61,8 @@ element_set_other (y ∷ xs) zero (suc n) x h = refl
 element_set_other (y ∷ xs) (suc m) zero x h = refl
 element_set_other (y ∷ xs) (suc m) (suc n) x h = element_set_other xs m n x (λ e. h (ap suc e))
 
--- what a read answered, against the element or null
-pub element_ok : {E : Type 0} (xs : List E) (n : ℕ) (x z : E) → Ok x ≡ element xs n → x ≡ get_or xs n z
-element_ok [] n x z e = let w : ◌≡◌ {A = ℕ} 0 1 = cc in absurd (omega arith)
-element_ok (y ∷ xs) zero x z e = cc
-element_ok (y ∷ xs) (suc n) x z e = element_ok xs n x z e
-
-pub element_null : {E : Type 0} (xs : List E) (n : ℕ) (f : StoreFault) (z : E) → Err f ≡ element xs n → z ≡ get_or xs n z
-element_null [] n f z e = refl
-element_null (y ∷ xs) zero f z e = let w : ◌≡◌ {A = ℕ} 0 1 = cc in absurd (omega arith)
-element_null (y ∷ xs) (suc n) f z e = element_null xs n f z e
+-- what a read answered, or null
+pub element_or : {E : Type 0} (xs : List E) (n : ℕ) (z : E) → result_unwrap_or (element xs n) z ≡ get_or xs n z
+element_or [] n z = refl
+element_or (y ∷ xs) zero z = refl
+element_or (y ∷ xs) (suc n) z = element_or xs n z

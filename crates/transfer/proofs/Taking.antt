@@ -1,8 +1,18 @@
 -- Loops that read cells into places.
-use Rattle.std.proofs.Common.{◌≡◌, ℕ, ◌+◌, ◌-◌, ◌<◌, min, cond, List, [], ◌∷◌, ◌++◌, map, length, get_or, take, drop, set, replicate, sym, refl, ap, ◌∙◌, ap₂, inl, inr, arith}
-use Rattle.std.proofs.lemmas.List.{take-append-drop, take_more_set, take_all, take-map, map_more, map-append, drop-set-lt, drop-drop, drop_all, drop-replicate, length-map}
+use Rattle.std.proofs.Common.{◌≡◌, ℕ, ◌+◌, ◌-◌, ◌<◌, ◌≤◌, min, cond, List, [], ◌∷◌, ◌++◌, map, length, get_or, take, drop, set, replicate, sym, refl, ap, ◌∙◌, ap₂, inl, inr, arith, length-drop}
+use Rattle.std.proofs.lemmas.List.{take-append-drop, take_more_set, take_all, take-map, map_more, map-append, drop-set-lt, drop-drop, drop_all, drop_more, drop-replicate, length-map}
 use Rattle.std.proofs.lemmas.Bool.{cases_lt, cases_eq, eq-eqb, ne_eqb}
 use Rattle.cells.specs.Cells.{member, beside}
+
+-- what is left of a list after its first i, when one more is taken, and when none is left
+pub drawn : {X : Type 0} (ns rest : List X) (i : ℕ) (n d : X) → drop i ns ≡ n ∷ rest → (i < length ns) × (n ≡ get_or ns i d) × (rest ≡ drop (i + 1) ns)
+drawn ns rest i n d e =
+    let h : i < length ns = omega (arith, ap length e, length-drop i ns) in
+    let q : n ∷ rest ≡ get_or ns i d ∷ drop (i + 1) ns = sym e ∙ drop_more ns i d h in
+    (h, cc, cc)
+
+pub drawn_out : {X : Type 0} (ns : List X) (i : ℕ) → drop i ns ≡ [] → length ns ≤ i
+drawn_out ns i e = omega (arith, ap length e, length-drop i ns)
 
 module _ {X : Type 0} where
   -- one more place is filled, and the later places stay

@@ -25,7 +25,8 @@ pub fn swap_in<S: Store>(store: &mut S, swaps: &[usize], row: SaveRow)
     ensures { Scattered S.Store S.Item.Element store.old store.new
         (take 16 swaps.now) (row_of S.Item.Element.unpacked row) }
 {
-    let many = swaps.len().min(16);
+    // By the place: the pairs count from the front, and are gone over from the back.
+    let many = swaps.len().min(row.words.len());
     for i in (0..many).rev() {
         let x = <S::Item as Element>::unpack(row.words[i]);
         let _ = store.write(swaps[i], x);
@@ -37,10 +38,12 @@ pub fn swap_out<S: Store>(store: &mut S, swaps: &[usize]) -> SaveRow
     ensures store { Unaltered S.Store store.old store.new }
     ensures row { Saved S.Item.Element (S.Store.cells store.old) (take 16 swaps.now) result }
 {
-    let mut words = [Words::ZERO; 16];
-    let taken = swaps.len().min(16);
-    for i in 0..taken {
-        words[i] = read_or_null(store, swaps[i]).pack();
+    let mut row = SaveRow::blank();
+    for (i, words) in row.words.iter_mut().enumerate() {
+        let Some(n) = swaps.get(i) else {
+            break;
+        };
+        *words = read_or_null(store, *n).pack();
     }
-    SaveRow { words }
+    row
 }

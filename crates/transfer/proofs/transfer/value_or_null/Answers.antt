@@ -1,6 +1,6 @@
-use Rattle.std.proofs.Common.{sym, ◌∙◌}
-use Rattle.std.proofs.lemmas.List.{get_or_past}
+use Rattle.std.proofs.Common.{◌∙◌, ap₂, arith}
+use Rattle.std.specs.Option.{unwrap_or}
 use Rattle.transfer.proofs.transfer.value_or_null.Goals as goal
 
-pub returns-else-i-values : goal.returns-else-i-values
-returns-else-i-values g c = c.null.ensures ∙ sym (get_or_past c.args.values.now c.args.i _ c.if-i-values.false)
+pub returns : goal.returns
+returns g c = c.unwrap_or.ensures ∙ (ap₂ unwrap_or c.copied.ensures c.null.ensures ∙ c.get.ensures.lookup.4 (omega arith) g.E.Element.blank)

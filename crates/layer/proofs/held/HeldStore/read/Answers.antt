@@ -11,7 +11,7 @@ pub returns-then-n-len : goal.returns-then-n-len
 returns-then-n-len g c =
     let x = c.args.self.now in
     record {
-      reads = reads_beyond (meant g.S.Store g.S.Item.Element x) _ c.args.n (omega (arith, length-meaning g.S.Item.Element (layer_of g.S.Store c.args.self.now))) refl;
+      reads = reads_beyond (meant g.S.Store g.S.Item.Element x) _ c.args.n (omega (arith, length-meaning g.S.Item.Element (layer_of g.S.Store g.S.Item.Element c.args.self.now))) refl;
       lender = refl;
       layer = record { table = refl; below = refl; apart = λ w e. refl };
     }
