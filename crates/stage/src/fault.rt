@@ -19,6 +19,7 @@ pub enum StageFault {
     Run { show: usize, why: RunRefusal },
 }
 
+// The library tells of no memory by two errors: this one, and one that holds what was not stored.
 impl From<AllocError> for StageFault {
     ghost from_gives = { λ _ r. r ≡ Memory };
 
