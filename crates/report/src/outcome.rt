@@ -47,6 +47,7 @@ impl fmt::Display for Missed {
 #[derive(Drop)]
 pub struct Outcome<E> {
     pub logged: LogRecord,
+    // Only the type is needed, no element.
     pub kind: PhantomData<E>,
 }
 
@@ -65,6 +66,7 @@ impl<E: Element + fmt::Display> fmt::Display for Outcome<E> {
         }
         let missed = Missed(r.missed);
         write!(f, "done{missed}")?;
+        // Value `i` stands in words `2 * i` and `2 * i + 1`.
         for i in 0..usize::from(r.count).min(4) {
             let before = before(i);
             let x = value_at::<E>(&r, i);

@@ -13,6 +13,7 @@ use wording::reason::kind_name;
 #[derive(Drop)]
 pub struct Row<'a, E> {
     pub logged: &'a LogRecord,
+    // Only the type is needed, no element.
     pub kind: PhantomData<E>,
 }
 

@@ -59,6 +59,7 @@ fn walk(bytes: &[u8], start: u16) -> Result<u16, FileRefusal>
 {
     let n = (bytes.len() / RECORD) as u16;
     let mut at = start;
+    // How far the chain came is the answer, and each step needs the one before.
     for count in 0..n {
         let next = next_index(bytes, at);
         if next == 0 {

@@ -14,18 +14,12 @@ mod tests {
 
     // Why a file is refused, if it is.
     fn refusal(bytes: &[u8]) -> Option<FileRefusal> {
-        match ShowFile::open(bytes) {
-            Ok(_) => None,
-            Err(why) => Some(why),
-        }
+        ShowFile::open(bytes).err()
     }
 
     // Why a record is refused, if it is.
     fn malformed(bytes: &[u8]) -> Option<Malformed> {
-        match decode(bytes) {
-            Ok(_) => None,
-            Err(why) => Some(why),
-        }
+        decode(bytes).err()
     }
 
     #[test]

@@ -4,7 +4,7 @@ ghost use Rattle.wording.specs.Reasons.{name_text, reason_text};
 
 use command::kind::Kind;
 
-// Why a command or a run is refused, by the refusal's number; 0 is no refusal.
+// Why a command or a run is refused, by the refusal's number, which is what a log record holds; 0 is no refusal.
 pub fn reason(refusal: u8) -> &'static str
     ensures { result.now ≡ reason_text refusal }
 {

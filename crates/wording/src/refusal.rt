@@ -12,7 +12,7 @@ pub struct RefusalNumber {
     pub detail: u8,
 }
 
-// What the refusal is about.
+// What the refusal is about. It is a type so that this part of the text is stated apart.
 #[derive(Clone, Copy)]
 struct About(RefusalNumber);
 
