@@ -1,5 +1,5 @@
 -- Verdicts of orders, from what the checks of turn, port and cells gave. Assumes nothing.
-use Rattle.std.proofs.Common.{◌≡◌, ℕ, ◌<◌, Bool, true, ◌&&◌, ltb, List, Ok, Err, sym, refl, ap, ◌∙◌}
+use Rattle.std.proofs.Common.{◌≡◌, ℕ, ◌<◌, Bool, true, false, ◌&&◌, ltb, suc, List, ◌∷◌, Ok, Err, sym, refl, ap, ◌∙◌}
 use Rattle.std.proofs.lemmas.Bool.{lt-ltb}
 use Rattle.std.specs.Result.{IsErrAnd}
 use Rattle.command.specs.declared.refusal.Refusal.{Refusal}
@@ -45,3 +45,11 @@ module _ {E : Type 0} (k : Making E) (busy mine : Bool) (p : ℕ) (l : p < k.par
 -- the right to a port, of a part that there is
 pub port_right : (p n : ℕ) (right b : Bool) → ltb p n ≡ true → right ≡ (ltb p n && b) → right ≡ b
 port_right p n right b l e = e ∙ ap (λ (t : Bool). t && b) l
+
+-- a cell without the right is refused at its place
+pub each_stops : (f : ℕ → Bool) (i n : ℕ) (ns : List ℕ) (v : Verdict) → f n ≡ false → each f i (n ∷ ns) v ≡ fail 12 i
+each_stops f i n ns v e = ap (λ (b : Bool). when b 12 i (each f (suc i) ns v)) e
+
+-- a cell with the right is passed
+pub each_goes : (f : ℕ → Bool) (i n : ℕ) (ns : List ℕ) (v : Verdict) → f n ≡ true → each f i (n ∷ ns) v ≡ each f (suc i) ns v
+each_goes f i n ns v e = ap (λ (b : Bool). when b 12 i (each f (suc i) ns v)) e

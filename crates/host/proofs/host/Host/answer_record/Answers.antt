@@ -11,7 +11,7 @@ use Rattle.isolation.proofs.Steps.{step_fail, step_pass}
 use Rattle.host.specs.Parts.{turn_of}
 use Rattle.host.specs.Hosted.{state_of, making_of}
 use Rattle.host.specs.Steps.{Does}
-use Rattle.host.proofs.Acts.{was_ok, part_is}
+use Rattle.host.proofs.Acts.{part_is}
 use Rattle.host.proofs.Does.{does_same, does_fail}
 use Rattle.host.proofs.host.Host.answer_record.Goals as goal
 
@@ -19,7 +19,7 @@ pub returns-in_err-verdict-clause-does : goal.returns-in_err-verdict-clause-does
 returns-in_err-verdict-clause-does g c =
     let h = c.args.self.now in
     let bs = c.args.bytes.now in
-    let was = was_ok _ c.decode.result c.map_err.result c.in_ok-command.command c.map_err.ensures.cases c.in_ok-command.was in
+    let was = c.in_ok-command.was in
     let o : order_of c.in_ok-command.command ≡ decoded bs = sym (ap decoded_of was) ∙ (c.decode.ensures.order ∙ ordered_whole bs c.told-bytes) in
     let there : c.in_ok-part.part.number ≡ part_of bs = part_is c.new.result c.in_ok-part.part Part (part_of bs) c.in_ok-part.ensures.value c.new.ensures.value in
     let why = c.in_err-verdict.field-0.0 in
@@ -31,7 +31,7 @@ returns-in_err-verdict-clause-does g c =
 
 pub perform-requires : goal.perform-requires
 perform-requires g c =
-    let was = was_ok _ c.decode.result c.map_err.result c.in_ok-command.command c.map_err.ensures.cases c.in_ok-command.was in
+    let was = c.in_ok-command.was in
     record {
       few = (c.decode.ensures.asks c.in_ok-command.command was).1;
       args = c.requires.args;
@@ -44,7 +44,7 @@ pub returns-clause-does : goal.returns-clause-does
 returns-clause-does g c =
     let h = c.args.self.now in
     let bs = c.args.bytes.now in
-    let was = was_ok _ c.decode.result c.map_err.result c.in_ok-command.command c.map_err.ensures.cases c.in_ok-command.was in
+    let was = c.in_ok-command.was in
     let o : order_of c.in_ok-command.command ≡ decoded bs = sym (ap decoded_of was) ∙ (c.decode.ensures.order ∙ ordered_whole bs c.told-bytes) in
     let there : c.in_ok-part.part.number ≡ part_of bs = part_is c.new.result c.in_ok-part.part Part (part_of bs) c.in_ok-part.ensures.value c.new.ensures.value in
     does_same g.S.Store g.S.Item.Element g.I.InstructionSet h c.perform.new.self (λ k s. act k pass (part_of bs) (order_of c.in_ok-command.command) s) (λ k s. record_step k bs s) c.perform.result
