@@ -11,6 +11,7 @@ pub fn count(bytes: &[u8]) -> usize
 }
 
 // Cell number `i` of a run of bytes, or 0 beyond its end.
+// Callers ask below `count`. By bytes: of pairs by `as_chunks` the value stays unproved.
 pub fn cell(bytes: &[u8], i: usize) -> usize
     ensures { result ≡ slice_index (cell_list bytes.now) i }
 {

@@ -4,6 +4,7 @@ ghost use Rattle.command.specs.Answers.{logged};
 use crate::refusal::Refusal;
 
 // The values that work gave: how many, and their packed words, unused ones zero; before them a queue missed so many.
+// A count and eight words, as a log record has them.
 #[derive(Clone, Copy)]
 pub struct Values {
     pub missed: u8,
@@ -14,7 +15,7 @@ pub struct Values {
 // What a command is answered: a restore or a save is done and gives nothing, work is done and gave values, or a refusal.
 pub type Answer = Result<Option<Values>, Refusal>;
 
-// One record of the log: what was asked, and the answer.
+// One record of the log: what was asked, and the answer. C reads it, so a kind and a refusal are numbers here.
 #[repr(C)]
 #[derive(Clone, Copy, PartialEq, Eq, Debug)]
 pub struct LogRecord {

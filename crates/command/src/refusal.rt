@@ -21,12 +21,12 @@ pub enum Refusal {
     Port,
     // A cell is beyond the sheet or without the right: arguments are counted from 0, results from 8.
     Cell(u8),
-    // The instruction set faults, with this number.
+    // The instruction set faults, with this number. A number, since a command does not know the faults of sets.
     Set(u8),
 }
 
 impl Refusal {
-    // The refusal's number in the rules.
+    // The refusal's number in the rules; a method, since `u8::from(why)` would not say what the number is.
     pub fn number(self) -> u8
         ensures { result ≡ refusal_number self }
     {

@@ -29,6 +29,7 @@ pub enum Fault {
     Run { path: String, refusal: u8 },
 }
 
+// The library tells of no memory by two errors: this one, and one that holds what was not stored.
 impl From<AllocError> for Fault {
     ghost from_gives = { λ _ r. r ≡ Memory };
 

@@ -28,6 +28,7 @@ fn kept_of(rig: &Rig) -> Kept
 }
 
 // A host of this rig over these cells, packed in words 2n and 2n + 1; refusal 19, and a host is still given.
+// C reads the refusal, so it is a number.
 #[unsafe(no_mangle)]
 pub extern "C" fn nuvkerd_make(rig: &Rig, cells: &[u32], refusal: &mut u32) -> KeptHost
     ensures { MakesHost rig.now cells.now result refusal.new }

@@ -42,7 +42,7 @@ impl Outcome {
         }
     }
 
-    // How a run of so many commands ended.
+    // How a run of so many commands ended. No `From`, which could not ask that their number fits.
     pub(crate) fn ended(commands: usize, ended: Result<usize, RunRefusal>) -> Outcome
         requires { commands < 2 ^ 16 }
         ensures { result ≡ ended_as commands ended }

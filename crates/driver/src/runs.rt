@@ -33,6 +33,7 @@ fn run_in<E: Element, I: InstructionSet<E> + Drop>(
 }
 
 // A run over words, with lent scratch; where it is refused, nothing is written.
+// The lists stay apart: in a struct they would be lent once more.
 pub(crate) fn run_over<E: Element, I: InstructionSet<E> + Drop>(
     kept: &mut Kept,
     layers: u8,

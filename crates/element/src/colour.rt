@@ -19,14 +19,11 @@ impl From<Colour> for u32 {
     ghost from_gives = { λ c w. w ≡ colour_word c };
 
     fn from(colour: Colour) -> u32 {
-        match colour {
-            Colour::Open => 0,
-            Colour::Slot(n) => 0x01000000 + n as u32,
-            Colour::Mix { red, green, blue } => 0x02000000
-                + red as u32 * 65536
-                + green as u32 * 256
-                + blue as u32,
-        }
+        u32::from_be_bytes(match colour {
+            Colour::Open => [0; 4],
+            Colour::Slot(n) => [1, 0, 0, n],
+            Colour::Mix { red, green, blue } => [2, red, green, blue],
+        })
     }
 }
 
@@ -35,13 +32,9 @@ impl From<u32> for Colour {
     ghost from_gives = { λ w c. c ≡ word_colour w };
 
     fn from(word: u32) -> Colour {
-        match word / 0x01000000 {
-            1 => Colour::Slot((word % 256) as u8),
-            2 => Colour::Mix {
-                red: (word / 65536 % 256) as u8,
-                green: (word / 256 % 256) as u8,
-                blue: (word % 256) as u8,
-            },
+        match word.to_be_bytes() {
+            [1, _, _, n] => Colour::Slot(n),
+            [2, red, green, blue] => Colour::Mix { red, green, blue },
             _ => Colour::Open,
         }
     }

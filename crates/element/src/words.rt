@@ -7,7 +7,7 @@ pub struct Words {
 }
 
 impl Words {
-    // Two words of zero, as the null element packs.
+    // Two words of zero, as the null element packs. A constant, so that it can fill an array.
     pub const ZERO: Words = Words {
         first: 0,
         second: 0,

@@ -20,6 +20,7 @@ pub struct Host<S: Store, I: InstructionSet<S::Item>> {
     sheet: Sheet,
     ports: Ports,
     rows: [SaveRow; 8],
+    // A byte and no `Part`: C hands over any byte as the holder.
     turn: Option<u8>,
     queues: Queues,
 }

@@ -12,7 +12,7 @@ use command::refusal::Refusal;
 use part::set::Part;
 use sheet::sheet::Sheet;
 
-// Refusal 12 for the first cell without the right; its place is counted from `from`.
+// Refusal 12 for the first cell without the right; its place is counted from `from`. The rules tell the right by the flag `writing`.
 pub(crate) fn first_without(
     sheet: &Sheet,
     part: Part,
@@ -49,7 +49,7 @@ pub(crate) fn without_turn(turn: Option<u8>, part: Part) -> Result<(), Refusal>
     Err(Refusal::Turn)
 }
 
-// Refusals 10 and 11, in this order: the turn is the part's, and the part has its right to the port.
+// Refusals 10 and 11, in this order: the turn is the part's, and the part has its right to the port. `right` is what the ports answered.
 pub(crate) fn turn_then_port(turn: Option<u8>, part: Part, right: bool) -> Result<(), Refusal>
     ensures { (v : Verdict) → when (held_by (turn_of turn) part.number) 10 0 (when right 11 5 v) ≡ then result v }
 {

@@ -7,7 +7,7 @@ use crate::fault::SetFault;
 use element::element::Element;
 
 pub trait InstructionSet<E: Element> {
-    // What a code makes of a list of elements: other elements, or a fault.
+    // What a code makes of a list of elements: other elements, or a fault. A code is a number of the set's own, as a record gives it.
     ghost meaning: { Self → ℕ → List E → Result (List E) SetFault };
 
     // Puts what the code means into the first places and says how many they are. The meaning stays.

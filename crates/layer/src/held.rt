@@ -54,6 +54,7 @@ impl<S: Store> Held<S> {
     pub fn flush(&mut self)
         ensures { Flushes S.Store S.Item.Element self.old self.new }
     {
+        // As long as there is one: nothing is counted.
         while self.table.len() > 0 {
             self.send();
         }

@@ -20,7 +20,7 @@ pub fn replay_held<S: Store>(
     layer.close()
 }
 
-// The same on a store that is lent.
+// The same on a store that is lent. It promises other than the one before: a lent store stays lent.
 pub fn replay_lent<S: Store>(
     store: &mut S,
     accesses: &[Access<S::Item>],
@@ -32,7 +32,7 @@ pub fn replay_lent<S: Store>(
     let _store = replay_held(store, accesses, places);
 }
 
-// The same on a lent list of elements.
+// The same on a lent list of elements. It promises other than the one before: the list is lent.
 pub fn replay_list<E: Element>(cells: &mut [E], accesses: &[Access<E>], places: &mut [Answer<E>])
     ensures { Answered cells.old cells.new accesses.now
         places.old places.new }

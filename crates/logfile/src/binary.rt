@@ -5,7 +5,7 @@ ghost use Rattle.logfile.specs.Bytes.{bytes_of, log_bytes, word_bytes};
 use command::log::LogRecord;
 use std::alloc::AllocError;
 
-// Adds words, four bytes each, the lowest first.
+// Adds words, four bytes each, the lowest first. Short loops, here and below: one over both would take what is added as a closure.
 fn add_words(out: &mut Vec<u8>, words: &[u32]) -> Result<(), AllocError>
     ensures { OnOk result (out.new.items ≡ out.old.items ++ word_bytes words.now) }
 {

@@ -27,7 +27,7 @@ impl Part {
     }
 }
 
-// The set of one part; no part from PARTS on has one.
+// The set of one part; no part from PARTS on has one. Any byte is taken.
 pub fn single(part: u8) -> Mask
     ensures { result ≡ (if nat_lt part parts then 2 ^ part else 0) }
 {
@@ -37,7 +37,7 @@ pub fn single(part: u8) -> Mask
     1 << part
 }
 
-// Whether the part is in the set; no part from PARTS on is.
+// Whether the part is in the set; no part from PARTS on is. Any byte is taken.
 pub fn contains(set: Mask, part: u8) -> bool
     ensures value { result ≡ bit part set }
     ensures past { parts ≤ part → result ≡ false }

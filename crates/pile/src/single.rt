@@ -9,6 +9,7 @@ use instruction::set::InstructionSet;
 use store::store::Store;
 
 // One command on the host that goes on over this store, which is given back; `told` is the command's record.
+// It is lent, and a closure would not serve, for the reasons told at runs.
 fn command_bare<S: Store, I: InstructionSet<S::Item> + Drop>(
     store: S,
     set: I,

@@ -15,7 +15,7 @@ pub struct Port {
     pub receivers: Mask,
 }
 
-// The sets of all ports.
+// The sets of all ports. An array, since C keeps it in place.
 #[repr(C)]
 #[derive(Clone, Copy)]
 pub struct Ports {

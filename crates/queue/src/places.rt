@@ -13,6 +13,7 @@ pub(crate) fn lay<A: Copy, B: Copy, F: Fn(A) -> B>(
     ensures count { result ≡ min (length values.now) (length places.old) }
 {
     let count = values.len().min(places.len());
+    // By the place, not by `zip`: of a list that was walked so the elements are not known afterwards.
     for (i, value) in values[..count].iter().enumerate() {
         places[i] = change(*value);
     }

@@ -2,10 +2,10 @@ use crate::port_queue::PortQueue;
 
 pub mod ops;
 
-// How many ports there are; they are numbered from 0.
+// How many ports there are; they are numbered from 0. The crate of the ports has the same number; queues stand on elements alone.
 pub const PORTS: u8 = 16;
 
-// The queues of the sixteen ports.
+// The queues of the sixteen ports. An array, since C keeps it in place.
 #[repr(C)]
 #[derive(Clone, Copy)]
 pub struct Queues {

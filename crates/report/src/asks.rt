@@ -31,7 +31,7 @@ impl<'a> fmt::Display for Cells<'a> {
     }
 }
 
-// A command by its name, with its code or port and its cells.
+// A command by its name, with its code or port and its cells. Each name is part of its line's text.
 #[derive(Clone, Copy)]
 pub struct Asks<'a>(pub Command<'a>);
 

@@ -16,7 +16,7 @@ fn before(i: usize) -> &'static str
     if i == 0 { ": " } else { "; " }
 }
 
-// Value `i` of a record.
+// Value `i` of a record. By its number, as it is defined: words 2i and 2i + 1.
 fn value_at<E: Element>(r: &LogRecord, i: usize) -> E
     requires { i < 4 }
     ensures { result ≡ value_at E.unpacked r.now i }

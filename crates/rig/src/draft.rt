@@ -5,7 +5,7 @@ use sheet::sheet::Sheet;
 
 mod ops;
 
-// A setup as far as its lines were read.
+// A setup as far as its lines were read. Its elements are an array for the largest sheet, as in a setup: reading allocates nothing.
 #[derive(Drop)]
 pub(crate) struct Draft {
     kind: Option<ElementKind>,

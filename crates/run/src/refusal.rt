@@ -5,19 +5,16 @@ ghost use Rattle.run.specs.Refusals.{number_of};
 #[derive(Clone, Copy, PartialEq, Eq, Debug)]
 pub enum RunRefusal {
     // The argument scratch has fewer than eight places, or the result scratch fewer than four.
-    Scratch,
+    Scratch = 6,
     // The log is shorter than the chain's commands.
-    Log,
+    Log = 5,
 }
 
 impl RunRefusal {
-    // The refusal's number in the rules.
+    // The refusal's number in the rules; a method, since `u8::from(why)` would not say what the number is.
     pub fn number(self) -> u8
         ensures { result ≡ number_of self }
     {
-        match self {
-            RunRefusal::Scratch => 6,
-            RunRefusal::Log => 5,
-        }
+        self as u8
     }
 }

@@ -62,6 +62,7 @@ fn clear_after<E: Element>(count: usize, places: &mut [E])
 }
 
 // Does each command of an opened show file, in chain order, and logs it; or refuses, and then leaves everything as it was.
+// The lists stay apart, since callers lend them so.
 pub fn run<S: Store, I: InstructionSet<S::Item>>(
     host: &mut Host<S, I>,
     file: ShowFile,

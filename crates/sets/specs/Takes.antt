@@ -7,7 +7,7 @@ use Rattle.instruction.specs.declared.fault.SetFault.TheVariants.{WrongCount}
 abbrev pub all_of : {E : Type 0} → List E → Result (List E) SetFault
 all_of xs = cond (nat_lt 4 (length xs)) (Err WrongCount) (Ok xs)
 
--- exactly one, two or three elements
+-- exactly one, two or three elements; a definition each, since one by a number would give a list that each meaning takes apart again
 abbrev pub one_of : {E : Type 0} → List E → Result E SetFault
 one_of [] = Err WrongCount
 one_of (a ∷ []) = Ok a

@@ -1,7 +1,7 @@
 // The dimmer curve: a table for 256 levels, whose rule is proved over the whole table.
 ghost use Rattle.std.specs.Prelude.{◌≡◌, ◌+◌, ◌*◌, ◌/◌};
 
-// (v * v + 127) / 255 for each v from 0 to 255. Bytes, since a constant would have to spell out each level as `Level { value: 0 }`.
+// (v * v + 127) / 255 for each v from 0 to 255. Bytes: the check of a table of levels found no end.
 #[rattlefmt::skip]
 const CURVE: [u8; 256] = [
     0, 0, 0, 0, 0, 0, 0, 0, 0, 0, 0, 0, 1, 1, 1, 1,

@@ -9,7 +9,7 @@ use element::head::Head;
 use instruction::fault::SetFault;
 use instruction::set::InstructionSet;
 
-// The set of codes over heads; it has no state.
+// The set of codes over heads; it has no state. A type of its own, since `new` states the laws of this set.
 #[derive(Clone, Copy, PartialEq, Eq, Debug)]
 pub struct HeadSet;
 

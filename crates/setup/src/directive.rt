@@ -59,7 +59,7 @@ pub enum Directive {
     Layers(u8),
     // How many cells there are.
     Cells(usize),
-    // A part may read (mode 1), write (2) or do both (0 and 3) with a cell.
+    // A part may read (mode 1), write (2) or do both (0 and 3) with a cell. Any byte is taken: a mode over 3 is a refusal of the sheet.
     Grant {
         cell: usize,
         part: u8,

@@ -6,6 +6,7 @@ ghost use Rattle.setup.specs.Numbers.{capped, number_of, number_up_to, written};
 use crate::problem::LineProblem;
 
 // Numbers are read exactly below this one, which stands for all that are larger.
+// A later character may still be no digit, which is told first.
 const CAP: u64 = 4294967296;
 
 // The number that digits of a base write; none where there are none, or one is no digit of the base.
@@ -34,7 +35,7 @@ fn read(word: &[u8]) -> Option<u64>
     }
 }
 
-// The number that a word stands for where it is at most `most`; the empty word is a missing one.
+// The number that a word stands for where it is at most `most`; the empty word is a missing one. Any word is taken, also the empty one.
 pub fn number(word: &[u8], most: u32) -> Result<u32, LineProblem>
     ensures value { result ≡ number_up_to most word.now }
     ensures bound { IfOk result (λ n. n ≤ most) }

@@ -31,7 +31,7 @@ fn trim(text: &[u8]) -> &[u8]
     &text[count_front(text, is_blank)..]
 }
 
-// The first word of a text, and what follows it; both are empty where there is none.
+// The first word of a text, and what follows it; both are empty where there is none. Its one caller makes the Option.
 fn split_word(text: &[u8]) -> (&[u8], &[u8])
     ensures word { result.0.now ≡ first_word text.now }
     ensures after { result.1.now ≡ after_word text.now }
@@ -70,14 +70,14 @@ impl<'a> Words<'a> {
     }
 }
 
-// Whether a word is this text.
+// Whether a word is this text, for callers of this crate; its own words are matched.
 pub fn is(word: &[u8], text: &str) -> bool
     ensures { result ≡ bytes_eq word.now text.now }
 {
     word == text.as_bytes()
 }
 
-// The first line of a text, and what follows it; both are empty where the text is.
+// The first line of a text, and what follows it; both are empty where the text is. `Lines` makes the Option.
 pub fn split_line(text: &[u8]) -> (&[u8], &[u8])
     ensures { FirstLine text.now result.0.now result.1.now }
 {

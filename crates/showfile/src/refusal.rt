@@ -17,7 +17,7 @@ pub enum FileRefusal {
 }
 
 impl FileRefusal {
-    // The refusal's number in the rules.
+    // The refusal's number in the rules; a method, since `u8::from(why)` would not say what the number is.
     pub fn number(self) -> u8
         ensures { result ≡ number_of self }
     {

@@ -11,7 +11,7 @@ pub fn same(a: &LogRecord, b: &LogRecord) -> bool
     a == b
 }
 
-// How many records of a log have a refusal.
+// How many records of a log have a refusal. A record has the byte 0 where it has none.
 pub fn refused(log: &[LogRecord]) -> usize
     ensures { result ≡ refusals log.now }
 {

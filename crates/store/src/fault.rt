@@ -9,7 +9,7 @@ pub enum StoreFault {
 }
 
 impl StoreFault {
-    // The refusal's number.
+    // The refusal's number; a method, since `u8::from(why)` would not say what the number is.
     pub fn number(self) -> u8
         ensures { result ≡ «number_of_lem» self }
     {

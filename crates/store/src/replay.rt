@@ -19,6 +19,7 @@ pub fn replay<S: Store>(store: &mut S, accesses: &[Access<S::Item>], places: &mu
     ensures { Replayed S.Store store.old store.new accesses.now
         places.old places.new }
 {
+    // By the place, not by `zip`: of a list that was walked so the elements are not known afterwards.
     for (i, place) in places.iter_mut().enumerate() {
         let Some(access) = accesses.get(i) else {
             break;

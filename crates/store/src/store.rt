@@ -11,7 +11,7 @@ pub trait Store {
     // What the store means: cell n holds element n.
     ghost cells: { Self → List Self.Item };
 
-    // The ghost names of the memory that was lent to the store; no call changes them.
+    // The ghost names of the memory that was lent to the store; no call changes them. Each call says so, since it is about two states.
     ghost lender: { Self → List ℕ };
 
     // How many cells there are.

@@ -23,6 +23,7 @@ fn value_or_null<E: Element>(values: &[E], i: usize) -> E
 }
 
 // Reads cells into the first places, as far as there are places, and tells how many it filled.
+// Apart from a row's: cells come as bytes here, values as elements.
 pub fn gather<S: Store>(store: &mut S, cells: &[u8], places: &mut [S::Item]) -> usize
     ensures store { Unaltered S.Store store.old store.new }
     ensures places { Gathered S.Item.Element.blank (S.Store.cells store.old) (cell_list cells.now)

@@ -25,7 +25,7 @@ pub fn reason(refusal: u8) -> &'static str
     }
 }
 
-// A kind's name, `?` where there is none.
+// A kind's name, `?` where there is none. An Option, since a record's byte may name none.
 pub fn kind_name(kind: Option<Kind>) -> &'static str
     ensures { result.now ≡ name_text kind }
 {

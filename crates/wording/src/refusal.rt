@@ -5,14 +5,14 @@ ghost use Rattle.wording.specs.Reasons.{detail_text, refusal_text};
 use crate::reason::reason;
 use std::fmt;
 
-// A refusal by its number, with its detail.
+// A refusal by its number, with its detail. Both are bytes of a log record.
 #[derive(Clone, Copy)]
 pub struct RefusalNumber {
     pub number: u8,
     pub detail: u8,
 }
 
-// What the refusal is about. It is a type so that this part of the text is stated apart.
+// What the refusal is about. A type of its own: written straight into the refusal's text, the arm of a byte stays unproved.
 #[derive(Clone, Copy)]
 struct About(RefusalNumber);
 

@@ -1,4 +1,4 @@
-// The calls on a rig.
+// The calls on a rig. C gives the kind, the layers and a mode as numbers, and reads a refusal as one.
 ghost use Rattle.std.specs.Prelude.{◌≡◌, ℕ, false, replicate, IfOk, IfErr, MatchResult};
 ghost use Rattle.part.specs.Sets.{parts};
 ghost use Rattle.sheet.specs.Rows.{made};
@@ -27,10 +27,7 @@ fn smallest() -> Rig
     ensures kind { result.heads ≡ false }
     ensures layers { result.layers ≡ 0 }
 {
-    let sheet = match Sheet::new(1) {
-        Ok(sheet) => sheet,
-        Err(refused) => refused.sheet,
-    };
+    let sheet = Sheet::new(1).unwrap_or_else(|refused| refused.sheet);
     Rig {
         sheet,
         ports: Ports::new(),
@@ -142,10 +139,9 @@ pub extern "C" fn nuvkerd_rig_swap(rig: &mut Rig, cell: usize) -> u32
 pub extern "C" fn nuvkerd_rig_port(rig: &mut Rig, port: u8, senders: Mask, receivers: Mask) -> u32
     ensures { Connects rig.old rig.new port senders receivers result }
 {
-    match rig.ports.set(port, senders, receivers) {
-        Ok(()) => 0,
-        Err(why) => why.number() as u32,
-    }
+    rig.ports
+        .set(port, senders, receivers)
+        .map_or_else(|why| why.number() as u32, |_| 0)
 }
 
 // The parts upstream of a part; none for a part that there is not.

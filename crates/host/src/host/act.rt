@@ -61,6 +61,7 @@ impl<S: Store, I: InstructionSet<S::Item>> Host<S, I> {
     }
 
     // The swapped cells take the part's row, and the turn is the part's.
+    // That the store fits is asked and stands in no type: a host may hold two sizes.
     fn restore(&mut self, part: Part) -> Answer
         requires fits { fits_of S.Store S.Item.Element self.old ≡ true }
         ensures does { Does S.Store S.Item.Element I.InstructionSet self.old self.new (λ k s. act k pass part.number order.restore s) result }

@@ -11,7 +11,7 @@ use sheet::sheet::Sheet;
 use store::store::Store;
 use transfer::row::SaveRow;
 
-// A turn, from whether it is held and by which part.
+// A turn, from whether it is held and by which part. C keeps the turn so.
 fn turn_of(held: bool, holder: u8) -> Option<u8>
     ensures { result ≡ kept_turn held holder }
 {

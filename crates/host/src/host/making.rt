@@ -10,7 +10,7 @@ use port::ports::Ports;
 use sheet::sheet::Sheet;
 use store::store::Store;
 
-// Refusal 19 where the sizes differ.
+// Refusal 19 where the sizes differ. An Option, since a host is made all the same.
 fn misfit(cells: usize, size: usize) -> Option<Refusal>
     ensures { result ≡ (if nat_eq cells size then None else Some refusal.Size) }
 {

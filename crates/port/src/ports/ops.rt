@@ -70,6 +70,7 @@ impl Ports {
             return 0;
         }
         let mut set = single(part);
+        // Until the set stays: nothing is counted.
         loop {
             let wider = self.widened(set);
             if wider == set {

@@ -33,7 +33,7 @@ impl PortQueue {
         }
     }
 
-    // Takes the first message away; an empty queue gives one of no elements.
+    // Takes the first message away; an empty queue gives one of no elements. Nobody tells the two apart.
     pub(crate) fn take(&mut self) -> First
         ensures after { messages_of self.new ≡ taken (messages_of self.old) }
         ensures message { elements result.message ≡ first (messages_of self.old).messages }

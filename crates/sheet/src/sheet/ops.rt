@@ -61,6 +61,7 @@ impl Sheet {
     }
 
     // Adds the part's bits to the cell's rows: mode 1 reads, 2 writes, 0 and 3 do both.
+    // Any byte is taken, since a mode over 3 is a refusal.
     pub fn grant(self, cell: usize, part: u8, mode: u8) -> Result<Sheet, Refused>
         ensures after { outcome result ≡ granted parts (rows_of self) cell part mode }
         ensures taken { TakenIs16 parts (rows_of self) cell part mode (outcome result).number }
@@ -127,6 +128,7 @@ impl Sheet {
     }
 
     // Whether the part may write the cell, or read it, while it has the turn; no part from PARTS on may.
+    // The rules tell the right by this flag.
     pub fn may_touch(&self, cell: usize, part: u8, writing: bool) -> bool
         ensures { result ≡ nat_lt part parts && touchable (rows_of self.now) writing part cell }
     {

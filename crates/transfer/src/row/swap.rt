@@ -21,6 +21,7 @@ impl SaveRow {
 }
 
 // The first 16 swapped cells take the elements of a row; cells past these are left alone.
+// Apart from `scatter`: cells come as numbers here, values as words.
 pub fn swap_in<S: Store>(store: &mut S, swaps: &[usize], row: SaveRow)
     ensures { Scattered S.Store S.Item.Element store.old store.new
         (take 16 swaps.now) (row_of S.Item.Element.unpacked row) }
