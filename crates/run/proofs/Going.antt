@@ -1,5 +1,5 @@
 -- A run after some turns. Assumes nothing.
-use Rattle.std.proofs.Common.{◌≡◌, ℕ, ◌+◌, ◌<◌, ◌≤◌, Bool, true, false, List, [], ◌∷◌, ◌++◌, map, length, get_or, take, drop, set, sym, refl, ap, ◌∙◌, subst, ap₂, arith, length-drop}
+use Rattle.std.proofs.Common.{◌≡◌, ℕ, ◌+◌, ◌<◌, ◌≤◌, Bool, true, false, List, [], ◌∷◌, ◌++◌, map, length, get_or, take, drop, set, sym, ap, ◌∙◌, subst, ap₂, arith, length-drop}
 use Rattle.std.proofs.lemmas.List.{drop_more, length-set, take_all, length-map}
 use Rattle.element.specs.declared.element.Element.{Ghosts as Elements}
 use Rattle.instruction.specs.declared.set.InstructionSet.{Ghosts as Sets}
@@ -16,7 +16,7 @@ use Rattle.host.specs.Logged.{record_of}
 use Rattle.host.specs.Hosted.{state_of, fits_of, making_of}
 use Rattle.host.specs.Commands.{Commanded}
 use Rattle.run.specs.Runs.{request_with, request_at, Left, Plays}
-use Rattle.run.proofs.Filled.{Filled, filled_none, filled_more}
+use Rattle.run.proofs.Filled.{Filled, filled_more}
 
 -- of scratch a command feels only whether it is enough
 order_room : (p a r a' r' : ℕ) (bs : List ℕ) → roomy (request_with p bs a r) ≡ true → roomy (request_with p bs a' r') ≡ true → order (request_with p bs a r) ≡ order (request_with p bs a' r')
