@@ -1,9 +1,10 @@
-use Rattle.std.proofs.Common.{◌≡◌, ℕ, zero, suc, ◌+◌, ◌-◌, ◌<◌, ◌≤◌, Bool, true, false, not, eqb, ◌≢◌, List, [], ◌∷◌, ◌++◌, length, get_or, take, drop, set, Some, None, Option, Ok, sym, refl, ap, ◌∙◌, subst, inl, inr, arith, length-set}
+use Rattle.std.proofs.Common.{◌≡◌, ℕ, zero, suc, ◌+◌, ◌-◌, ◌<◌, ◌≤◌, Bool, true, false, not, eqb, ◌≢◌, List, [], ◌∷◌, ◌++◌, length, get_or, take, drop, set, Some, None, Option, Ok, sym, refl, ap, ◌∙◌, subst, inl, inr, arith, length-set, length-take}
+use Rattle.element.specs.Pairs.{pair}
 use Rattle.element.specs.declared.words.Words.{Words}
-use Rattle.std.proofs.lemmas.List.{take_all, take-append-le, set-set, set_comm}
+use Rattle.std.proofs.lemmas.List.{take_more_set, take-append-le, set-set, set_comm}
 use Rattle.std.proofs.lemmas.Bool.{and_parts, and_from, and_left, and_right, eqb-true, eqb-false, eq-eqb, ne_eqb, not-true, not_from_true, not_from_false, cond_both, cond-true, cond-false, cases_eq, lt-ltb}
 use Rattle.std.specs.Option.{is_some}
-use Rattle.std.specs.List.{position, position_from, refill}
+use Rattle.std.specs.List.{position, position_from}
 use Rattle.std.proofs.lemmas.Iterator.Adapters.{position_from-zero}
 use Rattle.store.specs.Meaning.{element}
 use Rattle.store.proofs.Within.{element_set_same, element_set_other}
@@ -75,14 +76,6 @@ placed_at n (suc i) (x ∷ es) e h q =
     (λ t. absurd (h.0 (eqb-true x.cell e.cell t ∙ q)))
     (λ _. ap (λ l. x ∷ l) (placed_at n i es e h.1 q))
 
--- the same through a lent slice, which gives the list back at its length
-pub placed_lent : (n i : ℕ) (es ds : List HeldWrite) (e : HeldWrite) → HeldAt n i es → e.cell ≡ n → ds ≡ es → refill (length es) es (set ds i e) ≡ placed es e
-placed_lent n i es ds e h q d =
-    let m : length (set ds i e) ≡ length es = length-set ds i e ∙ ap length d in
-    take-append-le (length es) (set ds i e) (drop (length (set ds i e)) es) (omega arith)
-    ∙ (take_all (length es) (set ds i e) (omega arith)
-    ∙ (ap (λ (xs : List HeldWrite). set xs i e) d ∙ sym (placed_at n i es e h q)))
-
 pub placed_new : (es : List HeldWrite) (e : HeldWrite) → absent e.cell es ≡ true → placed es e ≡ es ++ e ∷ []
 placed_new [] e h = refl
 placed_new (x ∷ es) e h =
@@ -141,6 +134,39 @@ module _ {X : Type 0} (f : Words → X) where
       ∙ sym (ap (λ l. set l e.cell (f e.words)) (ap (λ m. laid f (set xs m (f x.words)) es) q ∙ laid_set xs e.cell (f x.words) es a)
       ∙ set-set (laid f xs es) e.cell _ _))
       (λ _. laid_placed (set xs x.cell (f x.words)) es e p.1)
+
+-- the first of the held, and the others after a turn of the whole table by one
+pub take_first : (es : List HeldWrite) (n : ℕ) (d : HeldWrite) → 0 < n → n ≤ length es → take n es ≡ get_or es 0 d ∷ take (n - 1) (drop 1 es ++ take 1 es)
+take_first [] n d h l = absurd (omega arith)
+take_first (e ∷ es) zero d h l = absurd (omega arith)
+take_first (e ∷ es) (suc n) d h l =
+    let k : n ≤ length es = omega arith in
+    let q : suc n - 1 ≡ n = omega arith in
+    rw q (ap (λ t. e ∷ t) (sym (take-append-le n es (e ∷ []) k)))
+
+pub take_of_set : {X : Type 0} (n : ℕ) (xs : List X) (i : ℕ) (a : X) → take n (set xs i a) ≡ set (take n xs) i a
+take_of_set zero xs i a = refl
+take_of_set (suc n) [] i a = refl
+take_of_set (suc n) (x ∷ xs) zero a = refl
+take_of_set (suc n) (x ∷ xs) (suc i) a = ap (λ t. x ∷ t) (take_of_set n xs i a)
+
+-- the table's array and count
+pub split_first : (es ts : List HeldWrite) (n : ℕ) (d : HeldWrite) → 0 < n → n ≤ length es → ts ≡ drop 1 es ++ take 1 es → take n es ≡ get_or es 0 d ∷ take (n - 1) ts
+split_first es ts n d h l q = take_first es n d h l ∙ ap (λ t. get_or es 0 d ∷ take (n - 1) t) (sym q)
+
+pub apart_rest : (es ts : List HeldWrite) (n : ℕ) → 0 < n → n ≤ length es → ts ≡ drop 1 es ++ take 1 es → apart (take n es) ≡ true → apart (take (n - 1) ts) ≡ true
+apart_rest es ts n h l q a =
+    let d : HeldWrite = record { cell = 0; words = pair 0 0 } in
+    (apart_parts (get_or es 0 d) (take (n - 1) ts) (ap apart (sym (split_first es ts n d h l q)) ∙ a)).1
+
+pub held_below : (n i k m : ℕ) (es : List HeldWrite) → HeldAt n i (take k es) → k ≤ m → i < m
+held_below n i k m es h l = let p = held_at_less n i (take k es) h in omega (arith, simp length-take at p)
+
+pub put_in_place : (es : List HeldWrite) (k i : ℕ) (e : HeldWrite) → HeldAt e.cell i (take k es) → take k (set es i e) ≡ placed (take k es) e
+put_in_place es k i e h = take_of_set k es i e ∙ sym (placed_at e.cell i (take k es) e h refl)
+
+pub put_last : (es : List HeldWrite) (k : ℕ) (e : HeldWrite) → absent e.cell (take k es) ≡ true → k < length es → take (k + 1) (set es k e) ≡ placed (take k es) e
+put_last es k e a l = take_more_set es k e l ∙ sym (placed_new (take k es) e a)
 
 -- what is held for a cell
 pub held_not_absent : (n i : ℕ) (es : List HeldWrite) → HeldAt n i es → absent n es ≡ false

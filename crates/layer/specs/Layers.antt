@@ -14,7 +14,7 @@ use Rattle.layer.specs.Holds.{held_for, placed, outgoing, laid}
 
 -- the held writes of a table
 abbrev pub held_in : Table → List HeldWrite
-held_in t = t.writes.items
+held_in t = take t.count t.writes
 
 pub record Layer (E : Type 0) : Type 0 where
   pub below : List E

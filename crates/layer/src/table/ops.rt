@@ -4,7 +4,6 @@ ghost use Rattle.layer.specs.Layers.{held_in};
 
 use super::Table;
 use crate::held_write::HeldWrite;
-use arrayvec::ArrayVec;
 use element::words::Words;
 
 impl Table {
@@ -13,7 +12,8 @@ impl Table {
         ensures { held_in result ≡ [] }
     {
         Table {
-            writes: ArrayVec::new(),
+            writes: [HeldWrite::default(); 16],
+            count: 0,
         }
     }
 
@@ -21,21 +21,22 @@ impl Table {
     pub(crate) fn len(&self) -> usize
         ensures { result ≡ length (held_in self.now) }
     {
-        self.writes.len()
+        self.count
     }
 
     // Where cell n is held, or None.
     fn find(&self, n: usize) -> Option<usize>
         ensures { result ≡ position (λ w. w.cell == n) (held_in self.now) }
     {
-        self.writes.iter().position(|w| w.cell == n)
+        self.writes[..self.count].iter().position(|w| w.cell == n)
     }
 
     // Whether cell n would be a seventeenth.
     pub(crate) fn is_full_for(&self, n: usize) -> bool
         ensures { result ≡ seventeenth n (held_in self.now) }
     {
-        self.writes.is_full() && self.find(n).is_none()
+        let full = self.count == 16;
+        full && self.find(n).is_none()
     }
 
     // What is held for cell n.
@@ -53,7 +54,10 @@ impl Table {
     {
         match self.find(w.cell) {
             Some(i) => self.writes[i] = w,
-            None => self.writes.push(w),
+            None => {
+                self.writes[self.count] = w;
+                self.count += 1;
+            }
         }
     }
 
@@ -62,6 +66,9 @@ impl Table {
         requires { 0 < length (held_in self.old) }
         ensures { held_in self.old ≡ result ∷ held_in self.new }
     {
-        self.writes.remove(0)
+        let w = self.writes[0];
+        self.writes.rotate_left(1);
+        self.count -= 1;
+        w
     }
 }
