@@ -127,7 +127,7 @@ followed : (p : Plan) (n : ℕ) (ls : List (List ℕ)) (r : Rig) → carried p n
 followed p n [] r e = finished p n p.kind p.rows r refl e
 followed p n (l ∷ ls) r e = one_line p n (line_of l) ls r (λ q f. followed q (n + 1) ls r f) e
 
-in_order_lem : (text : List ℕ) (r : Rig) → Ok r ≡ rig_of text → Asked text r
+pub in_order_lem : (text : List ℕ) (r : Rig) → Ok r ≡ rig_of text → Asked text r
 in_order_lem text r e = let f = followed empty 0 (lines_of text) r (sym e) in record { sheet = f.rows; ports = f.ports; elements = f.elements }
 
 pub asked_lem : (text : List ℕ) (r : Result Setup SetupError) → told_at r ≡ rig_of text → IfOk r (λ s. Asked text (plain_of s))

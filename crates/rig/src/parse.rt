@@ -19,7 +19,7 @@ pub fn parse(text: &str) -> Result<Setup, SetupError>
     let mut line = 0;
     for written in Lines(text.as_bytes()) {
         line += 1;
-        draft = draft
+        draft
             .take_line(written)
             .map_err(|problem| SetupError { line, problem })?;
     }

@@ -42,8 +42,8 @@ impl Draft {
     }
 
     // The first element of a cell of the sheet, in place of an earlier one.
-    fn place(mut self, cell: usize, words: Words) -> Result<Draft, Problem>
-        ensures { told plan_of result ≡ taken_element (plan_of self) cell words }
+    fn place(&mut self, cell: usize, words: Words) -> Result<(), Problem>
+        ensures { told (λ _. plan_of self.new) result ≡ taken_element (plan_of self.old) cell words }
     {
         let Some(sheet) = &self.sheet else {
             return Err(Problem::Early);
@@ -52,12 +52,12 @@ impl Draft {
             return Err(Problem::Beyond);
         }
         self.elements[cell] = words;
-        Ok(self)
+        Ok(())
     }
 
     // Carries a directive out.
-    fn take(mut self, directive: Directive) -> Result<Draft, Problem>
-        ensures { told plan_of result ≡ taken (plan_of self) directive }
+    fn take(&mut self, directive: Directive) -> Result<(), Problem>
+        ensures { told (λ _. plan_of self.new) result ≡ taken (plan_of self.old) directive }
     {
         match directive {
             Directive::Kind(kind) => self.kind = first(self.kind, kind)?,
@@ -82,17 +82,17 @@ impl Draft {
                 senders,
                 receivers,
             } => self.ports.set(port, senders, receivers)?,
-            Directive::Element { cell, words } => return self.place(cell, words),
+            Directive::Element { cell, words } => self.place(cell, words)?,
         }
-        Ok(self)
+        Ok(())
     }
 
     // Reads a line and carries out what it asks.
-    pub(crate) fn take_line(self, line: &[u8]) -> Result<Draft, Problem>
-        ensures { told plan_of result ≡ taken_line (plan_of self) (line_of line.now) }
+    pub(crate) fn take_line(&mut self, line: &[u8]) -> Result<(), Problem>
+        ensures { told (λ _. plan_of self.new) result ≡ taken_line (plan_of self.old) (line_of line.now) }
     {
         match read_line(line)? {
-            None => Ok(self),
+            None => Ok(()),
             Some(directive) => self.take(directive),
         }
     }
