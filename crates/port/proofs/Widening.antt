@@ -1,6 +1,6 @@
 -- A set widened by the ports that its members may receive from.
 -- Assumes nothing.
-use Rattle.std.proofs.Common.{◌≡◌, ℕ, zero, suc, ◌^◌, ◌<◌, ◌≤◌, Bool, true, false, cond, not, ◌||◌, eqb, ◌⊎◌, List, [], ◌∷◌, length, get_or, filter, fold, sym, refl, ap, ◌∙◌, inl, inr, le_of_suc-le-suc, not-suc-le-zero, arith}
+use Rattle.std.proofs.Common.{◌≡◌, ℕ, zero, suc, ◌^◌, ◌<◌, ◌≤◌, Bool, true, false, cond, ◌||◌, eqb, ◌⊎◌, List, [], ◌∷◌, length, get_or, fold, sym, refl, ap, ◌∙◌, inl, inr, le_of_suc-le-suc, not-suc-le-zero, arith}
 use lib.Bits.{bit_and, bit_or}
 use Rattle.std.proofs.lemmas.Bool.{eqb-true, eqb-false, eq-eqb, and_from, and_parts, or_left, or_right, or_cases, cases_Bool, both_ways}
 use Rattle.part.specs.Sets.{bit}
@@ -21,14 +21,10 @@ receives ps x = (get_or ps x no_sets).receivers
 abbrev pub one : ℕ → Port → ℕ → ℕ
 one m x w = cond (eqb (bit_and x.receivers m) 0) w (bit_or w (bit_or x.senders x.receivers))
 
--- widening takes the ports that a member may receive from, one after another
-pub widen_folds : (m : ℕ) (ps : List Port) (w : ℕ) →
-    fold (λ (v : ℕ) (x : Port). bit_or v (bit_or x.senders x.receivers)) w (filter (λ x. not (eqb (bit_and x.receivers m) 0)) ps) ≡ widen m ps w
+-- widening takes the ports one after another
+pub widen_folds : (m : ℕ) (ps : List Port) (w : ℕ) → fold (λ (v : ℕ) (x : Port). one m x v) w ps ≡ widen m ps w
 widen_folds m [] w = refl
-widen_folds m (x ∷ ps) w = elim (cases_Bool (eqb (bit_and x.receivers m) 0)) [
-  | inl t ↦ rw t (widen_folds m ps w)
-  | inr f ↦ rw f (widen_folds m ps (bit_or w (bit_or x.senders x.receivers)))
-]
+widen_folds m (x ∷ ps) w = widen_folds m ps (one m x w)
 
 cond_above : (b : Bool) (w s : ℕ) → w ≤ cond b w (bit_or w s)
 cond_above true w s = omega arith

@@ -1,4 +1,4 @@
-ghost use Rattle.std.specs.Prelude.{◌≡◌, replicate};
+ghost use Rattle.std.specs.Prelude.{◌≡◌, [], ◌∷◌, replicate};
 ghost use Rattle.part.specs.Sets.{parts};
 ghost use Rattle.port.specs.Reach.{Reach, widen};
 ghost use Rattle.port.specs.Sets.{answered, may_receive, may_send, no_sets, receives_of, sends_of, settled};
@@ -6,6 +6,18 @@ ghost use Rattle.port.specs.Sets.{answered, may_receive, may_send, no_sets, rece
 use super::{PORTS, Port, Ports};
 use crate::refusal::PortRefusal;
 use part::set::{Mask, PARTS, contains, single};
+
+impl Port {
+    // A set with the senders and receivers of this port, where a member of `members` may receive from it.
+    fn added_to(&self, wider: Mask, members: Mask) -> Mask
+        ensures { result ≡ widen members (self.now ∷ []) wider }
+    {
+        if self.receivers & members == 0 {
+            return wider;
+        }
+        wider | (self.senders | self.receivers)
+    }
+}
 
 impl Ports {
     // Sixteen ports with no senders and no receivers.
@@ -57,9 +69,7 @@ impl Ports {
     {
         self.ports
             .iter()
-            .copied()
-            .filter(|p| p.receivers & set != 0)
-            .fold(set, |wider, p| wider | (p.senders | p.receivers))
+            .fold(set, |wider, p| p.added_to(wider, set))
     }
 
     // The parts upstream of a part; none for a part from PARTS on.
