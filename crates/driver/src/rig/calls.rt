@@ -90,16 +90,15 @@ fn rig_of(kind: u32, layers: u32, cells: usize) -> Result<Rig, RigRefusal>
 pub extern "C" fn nuvkerd_rig_new(kind: u32, layers: u32, cells: usize, refusal: &mut u32) -> Rig
     ensures { NewRig kind layers cells result refusal.new }
 {
-    match rig_of(kind, layers, cells) {
-        Ok(rig) => {
-            *refusal = 0;
-            rig
-        }
+    let rig = match rig_of(kind, layers, cells) {
+        Ok(rig) => rig,
         Err(why) => {
             *refusal = why.number();
-            smallest()
+            return smallest();
         }
-    }
+    };
+    *refusal = 0;
+    rig
 }
 
 // Puts a changed sheet in the old one's place and gives 0, or gives the number of its refusal.
