@@ -1,18 +1,29 @@
 ghost use Rattle.std.specs.Prelude.{◌≡◌, ℕ, List, slice_index_or};
 ghost use Rattle.cells.specs.Cells.{cell_list};
+ghost use Rattle.store.specs.Meaning.{element};
 ghost use Rattle.transfer.specs.Transfers.{Unaltered, Gathered, Scattered};
 
 use cells::list::numbers::Numbers;
 use cells::list::{cell, count};
 use element::element::Element;
+use store::fault::StoreFault;
 use store::store::Store;
+
+// A read, which alters nothing that the store means: so arguments are all read before any write.
+fn read_only<S: Store>(store: &mut S, n: usize) -> Result<S::Item, StoreFault>
+    ensures answer { result ≡ element (S.Store.cells store.old) n }
+    ensures cells { S.Store.cells store.new ≡ S.Store.cells store.old }
+    ensures lender { S.Store.lender store.new ≡ S.Store.lender store.old }
+{
+    store.read(n)
+}
 
 // The element of a cell, or null where the store has no such cell.
 pub fn read_or_null<S: Store>(store: &mut S, n: usize) -> S::Item
     ensures store { Unaltered S.Store store.old store.new }
     ensures value { result ≡ slice_index_or (S.Store.cells store.old) n S.Item.Element.blank }
 {
-    store.read(n).unwrap_or(<S::Item as Element>::null())
+    read_only(store, n).unwrap_or(<S::Item as Element>::null())
 }
 
 // Value i, or null where the values run short.

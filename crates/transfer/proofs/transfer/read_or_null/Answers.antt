@@ -6,6 +6,6 @@ use Rattle.transfer.proofs.transfer.read_or_null.Goals as goal
 pub returns : goal.returns
 returns g c =
     record {
-      store = record { cells = c.read.ensures.reads.kept; lender = c.read.ensures.lender };
-      value = c.unwrap_or.ensures ∙ (ap₂ result_unwrap_or c.read.ensures.reads.answer c.null.ensures ∙ element_or (g.S.Store.cells c.args.store.now) c.args.n g.S.Item.Element.blank);
+      store = record { cells = c.read_only.ensures.cells; lender = c.read_only.ensures.lender };
+      value = c.unwrap_or.ensures ∙ (ap₂ result_unwrap_or c.read_only.ensures.answer c.null.ensures ∙ element_or (g.S.Store.cells c.args.store.now) c.args.n g.S.Item.Element.blank);
     }
