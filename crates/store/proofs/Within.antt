@@ -32,7 +32,10 @@ pub got_within : {X : Type 0} (xs : List X) (n : ℕ) (o : Option (Bor X)) (r : 
 got_within xs n None r x h d e = let w : ◌≡◌ {A = ℕ} 0 1 = cc in absurd (omega arith)
 got_within xs n (Some y) r x h d e = let q : y ≡ x = cc in (h.3.0, subst (λ (z : Bor _). z.now ≡ get_or xs n z.now) q h.1)
 
--- a read beyond the size
+-- a read that leaves the meaning
+pub reads_within : {E : Type 0} (xs ys : List E) (n : ℕ) (x : E) → n < length xs → x ≡ get_or xs n x → ys ≡ xs → Reads xs n (Ok x) ys
+reads_within xs ys n x h e k = record { answer = ap Ok e ∙ sym (element_within xs n x h); kept = k }
+
 pub reads_beyond : {E : Type 0} (xs ys : List E) (n : ℕ) → length xs ≤ n → ys ≡ xs → Reads xs n (Err Beyond) ys
 reads_beyond xs ys n h k = record { answer = sym (element_beyond xs n h); kept = k }
 
