@@ -10,13 +10,15 @@ impl Level {
         ensures is { result ≡ level value }
         ensures exact { result.value ≡ value }
     {
-        Level { value }
+        Level::from_low_bits(value as u32)
     }
 
     // The level in the low 8 bits of a word. Its name says that it drops the others, as a `From` would not.
     pub fn from_low_bits(word: u32) -> Level
         ensures { result ≡ level word }
     {
-        Level::new((word % 256) as u8)
+        Level {
+            value: (word % 256) as u8,
+        }
     }
 }
